@@ -1,0 +1,30 @@
+-- `basic_op::add` meets its contract. Assumes nothing.
+use borrow.Author.Needs.{needs}
+use mir.Syntax.{w16, w32}
+use mir.Facts.{toZ-ofZ, sfits-widen}
+use Rattle.basic_op.specs.Ops.{add}
+use Rattle.laws.specs.Range.{fits-add}
+use Rattle.laws.specs.Back.{came, keep}
+use Rattle.basic_op.proofs.add.Statement.{statement}
+use Rattle.basic_op.proofs.add.Tie as tie
+
+cast-sat16 : tie.Need-cast-sat16
+cast-sat16 c = sfits-widen tt (keep w16 tt (c .fits .a))
+
+cast-sat16-2 : tie.Need-cast-sat16-2
+cast-sat16-2 c = sfits-widen tt (keep w16 tt (c .fits .b))
+
+add-sat16 : tie.Need-add-sat16
+add-sat16 c = fits-add w16 w16 w32 _ _ (keep w32 tt (keep w16 tt (c .fits .a))) (keep w32 tt (keep w16 tt (c .fits .b))) tt
+
+sat16-requires : tie.Need-sat16-requires
+sat16-requires c κs = search needs
+
+returns : tie.Need-returns
+unfolding add
+returns c =
+    let s = c .before in
+    cc (came w16 (c .sat16), toZ-ofZ (s .fits .a), toZ-ofZ (s .fits .b), toZ-ofZ (cast-sat16 s), toZ-ofZ (cast-sat16-2 s), toZ-ofZ (add-sat16 s))
+
+pub add-spec : {M : Type 1} → statement M
+add-spec = tie.close (tie.spec cast-sat16 cast-sat16-2 add-sat16 sat16-requires returns)

@@ -1,0 +1,23 @@
+-- `basic_op::l_mac` meets its contract. Assumes nothing.
+use borrow.Author.Needs.{needs}
+use mir.Syntax.{w32}
+use mir.Facts.{toZ-ofZ}
+use Rattle.basic_op.specs.Ops.{l-mac}
+use Rattle.laws.specs.Back.{came}
+use Rattle.basic_op.proofs.l_mac.Statement.{statement}
+use Rattle.basic_op.proofs.l_mac.Tie as tie
+
+l-mult-requires : tie.Need-l-mult-requires
+l-mult-requires c κs = search needs
+
+l-add-requires : tie.Need-l-add-requires
+l-add-requires c κs = search needs
+
+returns : tie.Need-returns
+unfolding l-mac
+returns c =
+    let s = c .before .before in
+    cc (came w32 (c .l-add), came w32 (c .before .l-mult), toZ-ofZ (s .fits .acc), toZ-ofZ (s .fits .a), toZ-ofZ (s .fits .b))
+
+pub l-mac-spec : {M : Type 1} → statement M
+l-mac-spec = tie.close (tie.spec l-mult-requires l-add-requires returns)

@@ -1,0 +1,66 @@
+-- `basic_op::l_shr_r` meets its contract. Assumes nothing.
+use mathlib.Core.Path.{_∙_, ap, sym}
+use native.Mathlib.Omega.{arith}
+use borrow.Author.Needs.{needs}
+use lib.IntN.{pos, natAbs}
+use mir.Syntax.{w16, w32, w64}
+use mir.Facts.{toZ-ofZ, sfits-widen, sfits-lit}
+use Rattle.basic_op.specs.Ops.{l-shr-r, rounded}
+use Rattle.laws.specs.Range.{fits-add, fits-half}
+use Rattle.basic_op.specs.Laws.{by-pos, by-neg, rounded-zero, rounded-far, rounded-in}
+use Rattle.laws.specs.Back.{came, fits-came, keep, back-shr}
+use Rattle.basic_op.proofs.l_shr_r.Statement.{statement}
+use Rattle.basic_op.proofs.l_shr_r.Tie as tie
+
+count-requires : tie.Need-count-requires
+count-requires c κs = search needs
+
+l-shl-by-requires : tie.Need-l-shl-by-requires
+l-shl-by-requires c κs = search needs
+
+returns : tie.Need-returns
+unfolding l-shr-r
+returns c =
+    let s = c .before .before .before in
+    (cc (came w32 (c .l-shl-by), toZ-ofZ (s .fits .x), toZ-ofZ (s .fits .n))) ∙ by-neg (toZ-ofZ (s .fits .n)) _ _ (c .before .if1 .taken)
+
+returns-2 : tie.Need-returns-2
+unfolding l-shr-r
+returns-2 c =
+    let s = c .before .before .before in
+    let x = s .args .x in
+    toZ-ofZ (s .fits .x) ∙ rounded-zero x _ (c .if2 .taken) ∙ ap (rounded x) (c .before .before .count .ensures ∙ ap natAbs (toZ-ofZ (s .fits .n))) ∙ by-pos (toZ-ofZ (s .fits .n)) _ _ (c .before .if1 .left)
+
+returns-3 : tie.Need-returns-3
+unfolding l-shr-r
+returns-3 c =
+    let s = c .before .before .before .before in
+    let x = s .args .x in
+    rounded-far x _ (c .if3 .taken) ∙ ap (rounded x) (c .before .before .before .count .ensures ∙ ap natAbs (toZ-ofZ (s .fits .n))) ∙ by-pos (toZ-ofZ (s .fits .n)) _ _ (c .before .before .if1 .left)
+
+sub-sar32 : tie.Need-sub-sar32
+sub-sar32 c = search needs
+
+sar32-requires : tie.Need-sar32-requires
+sar32-requires c κs = search needs
+
+cast-result : tie.Need-cast-result
+cast-result c = sfits-widen tt (keep w32 tt (fits-came w32 (c .sar32)))
+
+add-result : tie.Need-add-result
+add-result c = fits-add w32 w16 w64 _ (pos 1) (keep w64 tt (keep w32 tt (fits-came w32 (c .sar32)))) (sfits-lit tt) tt
+
+cast-result-2 : tie.Need-cast-result-2
+cast-result-2 c = rw (toZ-ofZ (add-result c)) (keep w64 tt (fits-half _ (keep w64 tt (keep w32 tt (fits-came w32 (c .sar32))))))
+
+returns-4 : tie.Need-returns-4
+unfolding l-shr-r
+returns-4 c =
+    let s = c .before .before .before .before .before in
+    let x = s .args .x in
+    (cc (toZ-ofZ (cast-result-2 c), back-shr w64 _ 2 (add-result c), toZ-ofZ (cast-result c), came w32 (c .sar32), toZ-ofZ (s .fits .x)))
+    ∙ rounded-in x _ (c .before .before .if2 .left) (c .before .if3 .left)
+    ∙ ap (rounded x) (c .before .before .before .before .count .ensures ∙ ap natAbs (toZ-ofZ (s .fits .n))) ∙ by-pos (toZ-ofZ (s .fits .n)) _ _ (c .before .before .before .if1 .left)
+
+pub l-shr-r-spec : {M : Type 1} → statement M
+l-shr-r-spec = tie.close (tie.spec count-requires l-shl-by-requires returns returns-2 returns-3 sub-sar32 sar32-requires cast-result add-result cast-result-2 returns-4)

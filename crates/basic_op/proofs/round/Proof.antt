@@ -1,0 +1,23 @@
+-- `basic_op::round` meets its contract. Assumes nothing.
+use borrow.Author.Needs.{needs}
+use mir.Syntax.{w16, w32}
+use mir.Facts.{toZ-ofZ}
+use Rattle.basic_op.specs.Ops.{round}
+use Rattle.laws.specs.Back.{came}
+use Rattle.basic_op.proofs.round.Statement.{statement}
+use Rattle.basic_op.proofs.round.Tie as tie
+
+l-add-requires : tie.Need-l-add-requires
+l-add-requires c κs = search needs
+
+extract-h-requires : tie.Need-extract-h-requires
+extract-h-requires c κs = search needs
+
+returns : tie.Need-returns
+unfolding round
+returns c =
+    let s = c .before .before in
+    cc (came w16 (c .extract-h), came w32 (c .before .l-add), toZ-ofZ (s .fits .x))
+
+pub round-spec : {M : Type 1} → statement M
+round-spec = tie.close (tie.spec l-add-requires extract-h-requires returns)

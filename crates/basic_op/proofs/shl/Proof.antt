@@ -1,0 +1,38 @@
+-- `basic_op::shl` meets its contract. Assumes nothing.
+use mathlib.Core.Path.{_∙_, ap, sym}
+use native.Mathlib.Omega.{arith}
+use borrow.Author.Needs.{needs}
+use mir.Syntax.{w16, w32}
+use mir.Facts.{toZ-ofZ}
+use Rattle.basic_op.specs.Ops.{shl}
+use Rattle.basic_op.specs.Laws.{by-pos, by-neg}
+use Rattle.laws.specs.Back.{came}
+use Rattle.basic_op.proofs.shl.Statement.{statement}
+use Rattle.basic_op.proofs.shl.Tie as tie
+
+count-requires : tie.Need-count-requires
+count-requires c κs = search needs
+
+sar16-requires : tie.Need-sar16-requires
+sar16-requires c κs = search needs
+
+returns : tie.Need-returns
+unfolding shl
+returns c =
+    let s = c .before .before .before in
+    (cc (came w16 (c .sar16), toZ-ofZ (s .fits .a), toZ-ofZ (s .fits .n))) ∙ by-neg (toZ-ofZ (s .fits .n)) _ _ (c .before .before .if1 .taken)
+
+count-requires-2 : tie.Need-count-requires-2
+count-requires-2 c κs = search needs
+
+shl-by-requires : tie.Need-shl-by-requires
+shl-by-requires c κs = search needs
+
+returns-2 : tie.Need-returns-2
+unfolding shl
+returns-2 c =
+    let s = c .before .before .before in
+    (cc (came w16 (c .shl-by), toZ-ofZ (s .fits .a), toZ-ofZ (s .fits .n))) ∙ by-pos (toZ-ofZ (s .fits .n)) _ _ (c .before .before .if1 .left)
+
+pub shl-spec : {M : Type 1} → statement M
+shl-spec = tie.close (tie.spec count-requires sar16-requires returns count-requires-2 shl-by-requires returns-2)

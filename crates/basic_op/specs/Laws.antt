@@ -1,0 +1,115 @@
+-- Laws of `sat`, `by-sign` and `rounded`, by the tests that the code makes. Assumes nothing.
+use Prim.Native.Nat.{ℕ, zero, suc, _+_, _-_, _*_, _^_, _≤_, _<_, zero-le}
+use mathlib.Core.Path.{_≡_, refl, sym, ap, _∙_, subst}
+use mathlib.Core.Bool.{Bool, true, false, cond, not}
+use native.Mathlib.Omega.{arith}
+use native.Mathlib.Nat.{suc-mul, zero-mul, le-refl, le-trans, lt-of-lt-of-le, lt-of-le-of-lt}
+use lib.Dec.{T, leb, ltb, leb→le, ltb→lt}
+use lib.IntN.{ℤ, pos, negsuc, negℤ, natAbs, _+ℤ_, _-ℤ_, _*ℤ_}
+use lib.Signed.{mag, ltZ, leZ, shrZ, mag-shr}
+use borrow.Author.Needs.{needs}
+use borrow.Author.Tests.{lt-ltb, le-ltb, ltb-true, ne-eqb}
+use mir.Syntax.{Width, w16, w32, w64}
+use mir.Val.{SFits, hbits}
+use mir.Facts.{sfits-widen, sfits-lit}
+use Rattle.basic_op.specs.Ops.{sat, sat16, sat32, add, sub, l-mult, l-add, l-sub, l-mac, l-msu, mult, by-sign, rounded}
+use Rattle.laws.specs.Range.{within, fits-add, fits-sub, fits-mul, fits-shr}
+
+-- ---- `sat`, by the code's tests on y, which is z read back from its bits
+
+module _ (n : ℕ) {y z : ℤ} (e : y ≡ z) where
+  pub sat-above : ltZ (pos n) y ≡ true → pos n ≡ sat n z
+  unfolding sat
+  sat-above p = rw (← e, p)
+
+  pub sat-below : ltZ (pos n) y ≡ false → ltZ y (negsuc n) ≡ true → negsuc n ≡ sat n z
+  unfolding sat
+  sat-below p q = rw (← e, p, q)
+
+  pub sat-same : ltZ (pos n) y ≡ false → ltZ y (negsuc n) ≡ false → z ≡ sat n z
+  unfolding sat
+  sat-same p q = rw (← e, p, q)
+
+pub fits-within : {w : Width} (n : ℕ) {y : ℤ} → T (ltb n (2 ^ hbits w)) → ltZ (pos n) y ≡ false → ltZ y (negsuc n) ≡ false → SFits w y
+fits-within n {y} t p q = record { sfits = lt-of-le-of-lt (within n y p q) (ltb→lt _ _ t) }
+
+sat-by : (n : ℕ) (z : ℤ) (s t : Bool) → ltZ (pos n) z ≡ s → ltZ z (negsuc n) ≡ t → mag (cond s (pos n) (cond t (negsuc n) z)) ≤ n
+sat-by n z true t p q = le-refl n
+sat-by n z false true p q = le-refl n
+sat-by n z false false p q = within n z p q
+
+pub sat-mag : (n : ℕ) (z : ℤ) → mag (sat n z) ≤ n
+unfolding sat
+sat-mag n z = sat-by n z (ltZ (pos n) z) (ltZ z (negsuc n)) refl refl
+
+pub fits-sat : (w : Width) (n : ℕ) (z : ℤ) → T (ltb n (2 ^ hbits w)) → SFits w (sat n z)
+fits-sat w n z t = record { sfits = lt-of-le-of-lt (sat-mag n z) (ltb→lt _ _ t) }
+
+-- a number within the range is itself, and one beyond it is the end
+pub sat-id : (n : ℕ) (z : ℤ) → mag z ≤ n → sat n z ≡ z
+unfolding sat
+sat-id n (pos a) h = rw (le-ltb n a h)
+sat-id n (negsuc a) h = rw (le-ltb n a h)
+
+sat-top : (n a : ℕ) → n < a → sat n (pos a) ≡ pos n
+unfolding sat
+sat-top n a h = rw (lt-ltb n a h)
+
+sat-bottom : (n a : ℕ) → n < a → sat n (negsuc a) ≡ negsuc n
+unfolding sat
+sat-bottom n a h = rw (lt-ltb n a h)
+
+-- scaled beyond the range: 0 stays, and all else is the end of its sign
+far : ℕ → ℤ → ℤ
+far n (pos zero) = pos 0
+far n (pos (suc a)) = pos n
+far n (negsuc a) = negsuc n
+
+neg-bottom : (n j : ℕ) → suc n < j → sat n (negℤ (pos j)) ≡ negsuc n
+neg-bottom n zero h = absurd (omega arith)
+neg-bottom n (suc j) h = sat-bottom n j (omega arith)
+
+more : (a x : ℕ) → x ≤ suc a * x
+more a x = rw suc-mul (omega arith)
+
+far-is : (n : ℕ) (z : ℤ) (x : ℕ) → suc n < x → sat n (z *ℤ pos x) ≡ far n z
+unfolding far
+far-is n (pos zero) x h = rw zero-mul (sat-id n (pos 0) zero-le)
+far-is n (pos (suc a)) x h = sat-top n (suc a * x) (omega (arith, more a x))
+far-is n (negsuc a) x h = neg-bottom n (suc a * x) (omega (arith, more a x))
+
+pub sat-far : (n : ℕ) (z : ℤ) (x y : ℕ) → suc n < x → x ≤ y → sat n (z *ℤ pos x) ≡ sat n (z *ℤ pos y)
+sat-far n z x y h l = far-is n z x h ∙ sym (far-is n z y (lt-of-lt-of-le h l))
+
+-- ---- a count's sign, by the code's test on m, which is n read back
+
+module _ {m n : ℤ} (e : m ≡ n) (f g : ℕ → ℤ) where
+  pub by-pos : ltZ m (pos 0) ≡ false → f (natAbs n) ≡ by-sign n f g
+  unfolding by-sign
+  by-pos p = go n (rw e at p)
+    where
+      go : (n : ℤ) → ltZ n (pos 0) ≡ false → f (natAbs n) ≡ by-sign n f g
+      go (pos k) q = refl
+      go (negsuc k) q = let h : _≡_ {A = Bool} true false = q in absurd (subst T h tt)
+
+  pub by-neg : ltZ m (pos 0) ≡ true → g (natAbs n) ≡ by-sign n f g
+  unfolding by-sign
+  by-neg p = go n (rw e at p)
+    where
+      go : (n : ℤ) → ltZ n (pos 0) ≡ true → g (natAbs n) ≡ by-sign n f g
+      go (pos k) q = let h : k < 0 = ltb-true k 0 q in absurd (omega arith)
+      go (negsuc k) q = refl
+
+-- ---- `rounded`, by the code's tests
+
+pub rounded-zero : (x : ℤ) (k : ℕ) → k ≡ 0 → x ≡ rounded x k
+unfolding rounded
+rounded-zero x k e = rw e
+
+pub rounded-far : (x : ℤ) (k : ℕ) → 31 < k → pos 0 ≡ rounded x k
+unfolding rounded
+rounded-far x k h = rw (ne-eqb k 0 (λ e. omega arith), lt-ltb 31 k h)
+
+pub rounded-in : (x : ℤ) (k : ℕ) → (k ≡ 0 → ⊥) → k ≤ 31 → shrZ (shrZ x (2 ^ (k - 1)) +ℤ pos 1) 2 ≡ rounded x k
+unfolding rounded
+rounded-in x k n h = rw (ne-eqb k 0 n, le-ltb 31 k h)

@@ -1,0 +1,5 @@
+-- The definitions that the contracts of `basic_op` cite, and the laws that proofs over them use.
+pub mod Ops
+pub mod Laws
+pub mod Norm
+pub mod Low

@@ -1,0 +1,47 @@
+-- The lower 16 bits of a number of 32, as `x & 65535` gives them. Assumes nothing.
+use Prim.Native.Nat.{ℕ, zero, suc, _+_, _-_, _*_, _%_, _^_, _≤_, _<_}
+use mathlib.Core.Path.{_≡_, refl, sym, ap, _∙_, subst}
+use mathlib.Core.Bool.{Bool, true, false}
+use native.Mathlib.Omega.{arith}
+use lib.Bits.{bitAnd, and-mask}
+use lib.IntN.{ℤ, pos, negsuc, _-ℤ_}
+use lib.Signed.{mag, ltZ}
+use borrow.Author.Tests.{lt-ltb, le-ltb, ltb-true, ltb-false}
+use mir.Syntax.{w16, w32}
+use mir.Val.{SFits, toZ, ofZ}
+use mir.ValLaws.{toZ-pos}
+use mir.Facts.{sfits-toZ}
+use Rattle.basic_op.specs.Ops.{low16, extract-l}
+
+pub low-lt : (x : ℤ) → low16 x < 65536
+unfolding low16
+low-lt (pos n) = omega arith
+low-lt (negsuc n) = omega arith
+
+low-mod : (x : ℤ) → mag x < 2 ^ 31 → ofZ w32 x % 65536 ≡ low16 x
+unfolding low16
+low-mod (pos n) h = refl
+low-mod (negsuc n) h = omega arith
+
+pub low-and : (x : ℤ) → SFits w32 x → toZ w32 (bitAnd (ofZ w32 x) 65535) ≡ pos (low16 x)
+low-and x f = rw (and-mask (ofZ w32 x) 16, low-mod x (f .sfits)) (toZ-pos w32 (low16 x) (omega (arith, low-lt x)))
+
+-- the upper half of the patterns are the negative numbers
+module _ (x : ℤ) {y : ℤ} (e : y ≡ pos (low16 x)) where
+  pub low-neg : ltZ (pos 32767) y ≡ true → y -ℤ pos 65536 ≡ extract-l x
+  unfolding extract-l
+  low-neg p = rw (e, lt-ltb (low16 x) 65536 (low-lt x), le-ltb (low16 x) 32768 above)
+    where
+      above : 32768 ≤ low16 x
+      above = ltb-true 32767 (low16 x) (rw e at p)
+
+  pub low-pos : ltZ (pos 32767) y ≡ false → y ≡ extract-l x
+  unfolding extract-l
+  low-pos p = rw (e, lt-ltb (low16 x) 32768 below)
+    where
+      below : low16 x < 32768
+      below = let h : low16 x ≤ 32767 = ltb-false 32767 (low16 x) (rw e at p) in omega arith
+
+pub fits-extract-l : (x : ℤ) → SFits w16 (extract-l x)
+unfolding extract-l
+fits-extract-l x = sfits-toZ (record { fits = low-lt x })

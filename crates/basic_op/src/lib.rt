@@ -1,0 +1,271 @@
+// The basic operators of G.191 that the decoder uses. Each contract is an equation with a definition of specs/Ops.antt,
+// and asks nothing of the caller.
+ghost use mathlib.Core.Path.{_≡_};
+ghost use Prim.Native.Nat.{_^_, _<_};
+ghost use lib.IntN.{pos, negsuc, natAbs, _+ℤ_, _-ℤ_, _*ℤ_};
+ghost use lib.Signed.{shrZ, mag};
+ghost use Rattle.basic_op.specs.Ops.{sat16, sat32, add, sub, l-mult, l-add, l-sub, l-mac, l-msu, mult, extract-h, extract-l, round, l-deposit-h, shl, l-shl, l-shr, l-shr-r, norm-l, overflow32, l-mult-overflow, l-msu-overflow, round-overflow, l-shl3-overflow};
+
+pub fn sat16(x: i32) -> i16
+    ensures { λ r. ⌜ r ≡ sat16 x ⌝ }
+{
+    if x > 32767 {
+        32767
+    } else if x < -32768 {
+        -32768
+    } else {
+        x as i16
+    }
+}
+
+pub fn sat32(x: i64) -> i32
+    ensures { λ r. ⌜ r ≡ sat32 x ⌝ }
+{
+    if x > 2147483647 {
+        2147483647
+    } else if x < -2147483648 {
+        -2147483648
+    } else {
+        x as i32
+    }
+}
+
+pub fn add(a: i16, b: i16) -> i16
+    ensures { λ r. ⌜ r ≡ add a b ⌝ }
+{
+    sat16(a as i32 + b as i32)
+}
+
+pub fn sub(a: i16, b: i16) -> i16
+    ensures { λ r. ⌜ r ≡ sub a b ⌝ }
+{
+    sat16(a as i32 - b as i32)
+}
+
+pub fn l_mult(a: i16, b: i16) -> i32
+    ensures { λ r. ⌜ r ≡ l-mult a b ⌝ }
+{
+    sat32(2 * (a as i64 * b as i64))
+}
+
+pub fn l_add(a: i32, b: i32) -> i32
+    ensures { λ r. ⌜ r ≡ l-add a b ⌝ }
+{
+    sat32(a as i64 + b as i64)
+}
+
+pub fn l_sub(a: i32, b: i32) -> i32
+    ensures { λ r. ⌜ r ≡ l-sub a b ⌝ }
+{
+    sat32(a as i64 - b as i64)
+}
+
+pub fn l_mac(acc: i32, a: i16, b: i16) -> i32
+    ensures { λ r. ⌜ r ≡ l-mac acc a b ⌝ }
+{
+    l_add(acc, l_mult(a, b))
+}
+
+pub fn l_msu(acc: i32, a: i16, b: i16) -> i32
+    ensures { λ r. ⌜ r ≡ l-msu acc a b ⌝ }
+{
+    l_sub(acc, l_mult(a, b))
+}
+
+pub fn mult(a: i16, b: i16) -> i16
+    ensures { λ r. ⌜ r ≡ mult a b ⌝ }
+{
+    sat16((a as i32 * b as i32) >> 15)
+}
+
+pub fn extract_h(x: i32) -> i16
+    ensures { λ r. ⌜ r ≡ extract-h x ⌝ }
+{
+    (x >> 16) as i16
+}
+
+pub fn round(x: i32) -> i16
+    ensures { λ r. ⌜ r ≡ round x ⌝ }
+{
+    extract_h(l_add(x, 32768))
+}
+
+pub fn extract_l(x: i32) -> i16
+    ensures { λ r. ⌜ r ≡ extract-l x ⌝ }
+{
+    let low = x & 65535;
+    if low > 32767 {
+        (low - 65536) as i16
+    } else {
+        low as i16
+    }
+}
+
+pub fn l_deposit_h(a: i16) -> i32
+    ensures { λ r. ⌜ r ≡ l-deposit-h a ⌝ }
+{
+    a as i32 * 65536
+}
+
+// Arithmetic right shifts: the floor division by 2 ^ n, for every n.
+pub fn sar16(a: i16, n: u32) -> i16
+    ensures { λ r. ⌜ r ≡ shrZ a (2 ^ n) ⌝ }
+{
+    if n > 15 {
+        return a >> 15;
+    }
+    a >> n
+}
+
+pub fn sar32(x: i32, n: u32) -> i32
+    ensures { λ r. ⌜ r ≡ shrZ x (2 ^ n) ⌝ }
+{
+    if n > 31 {
+        return x >> 31;
+    }
+    x >> n
+}
+
+pub fn sar64(x: i64, n: u32) -> i64
+    ensures { λ r. ⌜ r ≡ shrZ x (2 ^ n) ⌝ }
+{
+    if n > 63 {
+        return x >> 63;
+    }
+    x >> n
+}
+
+// The count of a shift, without its sign.
+fn count(n: i16) -> u32
+    ensures { λ r. ⌜ r ≡ natAbs n ⌝ }
+{
+    if n < 0 {
+        (0 - n as i32) as u32
+    } else {
+        n as u32
+    }
+}
+
+fn pow32(n: u32) -> i32
+    requires { ⌜ n < 31 ⌝ }
+    ensures { λ r. ⌜ r ≡ pos (2 ^ n) ⌝ }
+{
+    1 << n
+}
+
+fn pow64(n: u32) -> i64
+    requires { ⌜ n < 63 ⌝ }
+    ensures { λ r. ⌜ r ≡ pos (2 ^ n) ⌝ }
+{
+    1 << n
+}
+
+// Left shifts with saturation, for every n.
+fn shl_by(a: i16, n: u32) -> i16
+    ensures { λ r. ⌜ r ≡ sat16 (a *ℤ pos (2 ^ n)) ⌝ }
+{
+    if n > 16 {
+        return sat16(a as i32 * 65536);
+    }
+    sat16(a as i32 * pow32(n))
+}
+
+fn l_shl_by(x: i32, n: u32) -> i32
+    ensures { λ r. ⌜ r ≡ sat32 (x *ℤ pos (2 ^ n)) ⌝ }
+{
+    if n > 32 {
+        return sat32(x as i64 * 4294967296);
+    }
+    sat32(x as i64 * pow64(n))
+}
+
+pub fn shl(a: i16, n: i16) -> i16
+    ensures { λ r. ⌜ r ≡ shl a n ⌝ }
+{
+    if n < 0 {
+        return sar16(a, count(n));
+    }
+    shl_by(a, count(n))
+}
+
+pub fn l_shl(x: i32, n: i16) -> i32
+    ensures { λ r. ⌜ r ≡ l-shl x n ⌝ }
+{
+    if n < 0 {
+        return sar32(x, count(n));
+    }
+    l_shl_by(x, count(n))
+}
+
+pub fn l_shr(x: i32, n: i16) -> i32
+    ensures { λ r. ⌜ r ≡ l-shr x n ⌝ }
+{
+    if n < 0 {
+        return l_shl_by(x, count(n));
+    }
+    sar32(x, count(n))
+}
+
+pub fn l_shr_r(x: i32, n: i16) -> i32
+    ensures { λ r. ⌜ r ≡ l-shr-r x n ⌝ }
+{
+    let k = count(n);
+    if n < 0 {
+        return l_shl_by(x, k);
+    }
+    if k == 0 {
+        return x;
+    }
+    if k > 31 {
+        return 0;
+    }
+    let half = sar32(x, k - 1);
+    ((half as i64 + 1) >> 1) as i32
+}
+
+// x, or its complement -1 - x where it is negative.
+fn magnitude(x: i32) -> u32
+    ensures { λ r. ⌜ r ≡ mag x ⌝ }
+{
+    if x < 0 { (-1 - x) as u32 } else { x as u32 }
+}
+
+pub fn norm_l(x: i32) -> i16
+    ensures { λ r. ⌜ r ≡ norm-l x ⌝ }
+{
+    if x == 0 {
+        return 0;
+    }
+    (u32::leading_zeros(magnitude(x)) - 1) as i16
+}
+
+// Whether an operator saturates.
+fn overflow32(x: i64) -> bool
+    ensures { λ r. ⌜ r ≡ overflow32 x ⌝ }
+{
+    (x > 2147483647) | (x < -2147483648)
+}
+
+pub fn l_mult_overflow(a: i16, b: i16) -> bool
+    ensures { λ r. ⌜ r ≡ l-mult-overflow a b ⌝ }
+{
+    overflow32(2 * (a as i64 * b as i64))
+}
+
+pub fn l_msu_overflow(acc: i32, a: i16, b: i16) -> bool
+    ensures { λ r. ⌜ r ≡ l-msu-overflow acc a b ⌝ }
+{
+    l_mult_overflow(a, b) | overflow32(acc as i64 - l_mult(a, b) as i64)
+}
+
+pub fn round_overflow(x: i32) -> bool
+    ensures { λ r. ⌜ r ≡ round-overflow x ⌝ }
+{
+    overflow32(x as i64 + 32768)
+}
+
+pub fn l_shl3_overflow(x: i32) -> bool
+    ensures { λ r. ⌜ r ≡ l-shl3-overflow x ⌝ }
+{
+    overflow32(x as i64 * 8)
+}

@@ -1,0 +1,5 @@
+-- Laws that the proofs of every crate cite: lists by their words, counted loops, ranges of signed numbers, and their way through locals.
+pub mod Lists
+pub mod Loops
+pub mod Range
+pub mod Back

@@ -1,0 +1,90 @@
+-- Lists given by their words, and loops that fill a list from the front. Assumes nothing.
+use mathlib.Core.Path.{_≡_, refl, ap, sym, _∙_}
+use mathlib.Core.List.{List, [], _∷_, _++_, append-nil}
+use Prim.Native.Nat.{ℕ, zero, suc, _+_, _≤_, _<_}
+use native.Mathlib.Numerals.{add-one}
+use native.Mathlib.Omega.{arith}
+use lib.IntN.{ℤ, pos}
+use lib.ListN.{length, take, drop, getD, set, length-append, length-drop, drop-of-length-le}
+use lib.Seq.{drop-cons, append-snoc, set-at, drop-length, take-suc, take-all, getD-drop, take-at, drop-at}
+
+-- the word at place k; 0 past the end
+abbrev pub at : List ℤ → ℕ → ℤ
+at l k = getD l k (pos 0)
+
+-- the list of n words whose word k is f k
+unfoldable pub tab : ℕ → (ℕ → ℤ) → List ℤ
+tab zero f = []
+tab (suc n) f = tab n f ++ (f n ∷ [])
+
+pub length-tab : (n : ℕ) (f : ℕ → ℤ) → length (tab n f) ≡ n
+unfolding tab
+length-tab zero f = refl
+length-tab (suc n) f = length-append (tab n f) (f n ∷ []) ∙ ap (λ (k : ℕ). k + 1) (length-tab n f) ∙ add-one n
+
+-- ---- a loop that fills a list: the first n words are those of tab n f
+
+unfoldable pub filled : (ℕ → ℤ) → ℕ → List ℤ → List ℤ
+filled f n l = tab n f ++ drop n l
+
+pub filled-none : (f : ℕ → ℤ) (l : List ℤ) → l ≡ filled f 0 l
+unfolding filled tab
+filled-none f l = refl
+
+filled-more : (f : ℕ → ℤ) (n : ℕ) (l : List ℤ) → n < length l → set (filled f n l) n (f n) ≡ filled f (n + 1) l
+unfolding filled tab
+filled-more f n l h = rw (drop-cons l n (pos 0), set-at (tab n f) (getD l n (pos 0)) (drop (suc n) l) (f n) n (length-tab n f), add-one) (sym (append-snoc (tab n f) (f n) (drop (suc n) l)))
+
+-- one turn of the loop
+pub fill : (f : ℕ → ℤ) (n : ℕ) (l out : List ℤ) (v : ℤ) → n < length l → out ≡ filled f n l → v ≡ f n → set out n v ≡ filled f (n + 1) l
+fill f n l out v h e g = rw (e, g) (filled-more f n l h)
+
+pub length-filled : (f : ℕ → ℤ) (n : ℕ) (l : List ℤ) → n ≤ length l → length (filled f n l) ≡ length l
+unfolding filled
+length-filled f n l h = simp (length-append, length-tab, length-drop) (omega arith)
+
+filled-all : (f : ℕ → ℤ) (n : ℕ) (l : List ℤ) → length l ≡ n → filled f n l ≡ tab n f
+unfolding filled
+filled-all f n l h = rw (← h, drop-length) (append-nil (tab (length l) f))
+
+-- the last turn is behind
+pub filled-end : (f : ℕ → ℤ) (n m : ℕ) (l out : List ℤ) → out ≡ filled f n l → n ≡ m → length l ≡ m → out ≡ tab m f
+filled-end f n m l out g h e = g ∙ rw h (filled-all f m l e)
+
+-- ---- a list is its own words
+
+pub tab-at : (l : List ℤ) (n : ℕ) → n ≤ length l → tab n (at l) ≡ take n l
+unfolding tab
+tab-at l zero h = refl
+tab-at l (suc n) h = rw (tab-at l n (omega arith), take-suc l n (pos 0) h)
+
+-- a part of a list, by its words
+pub tab-part : (l : List ℤ) (p n : ℕ) → p + n ≤ length l → tab n (λ k. at l (p + k)) ≡ take n (drop p l)
+unfolding tab
+tab-part l p zero h = refl
+tab-part l p (suc n) h =
+    let q : n < length (drop p l) = simp length-drop (omega arith) in
+    rw (tab-part l p n (omega arith), take-suc (drop p l) n (pos 0) q, getD-drop)
+
+-- the whole of a shorter list, copied to the front
+pub filled-copy : (src l : List ℤ) (n m : ℕ) (out : List ℤ) → out ≡ filled (at src) n l → n ≡ m → length src ≡ m → out ≡ src ++ drop m l
+unfolding filled
+filled-copy src l n m out g h e = g ∙ rw (h, tab-at src m (omega arith), take-all m src (omega arith))
+
+-- a list copied over another of its length
+pub filled-whole : (src l : List ℤ) (n m : ℕ) (out : List ℤ) → out ≡ filled (at src) n l → n ≡ m → length src ≡ m → length l ≡ m → out ≡ src
+filled-whole src l n m out g h e k = filled-end (at src) n m l out g h k ∙ tab-at src m (omega arith) ∙ take-all m src (omega arith)
+
+-- the second half of a list written after the first
+pub halves : (a r b : List ℤ) (m n : ℕ) → length a ≡ m → length r ≡ n → take m (a ++ r) ++ (b ++ drop n (drop m (a ++ r))) ≡ a ++ b
+halves a r b m n h k = rw (take-at a r m h, drop-at a r m h, drop-of-length-le r {i = n} (omega arith), append-nil)
+
+-- ---- a list that is built from the front, a part at a time
+
+-- one part more
+pub next : (p q t v : List ℤ) → t ≡ p → q ≡ t ++ v → q ≡ p ++ v
+next p q t v e g = g ∙ rw e
+
+-- the last part
+pub whole : (p q : List ℤ) (n : ℕ) → take n q ≡ p → length q ≡ n → q ≡ p
+whole p q n e h = sym (take-all n q (omega arith)) ∙ e

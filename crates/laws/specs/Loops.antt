@@ -1,0 +1,73 @@
+-- Counted loops: a step for each number below n, and words written in order. Assumes nothing.
+use mathlib.Core.Path.{_≡_, refl, ap, sym, _∙_}
+use mathlib.Core.List.{List, [], _∷_, _++_, append-assoc, append-nil}
+use Prim.Native.Nat.{ℕ, zero, suc, _+_, _≤_, _<_}
+use native.Mathlib.Numerals.{add-one}
+use native.Mathlib.Nat.{add-zero, add-suc}
+use native.Mathlib.Omega.{arith}
+use lib.IntN.{ℤ, pos}
+use lib.ListN.{length, take, drop, set, length-set}
+use lib.Seq.{take-suc, take-suc-set, take-all}
+use Rattle.laws.specs.Lists.{at}
+
+-- ---- a step for each number below n, in order, on any state: a sum is such a loop
+
+unfoldable pub steps {ℓ} : {A : Type ℓ} → (ℕ → A → A) → ℕ → A → A
+steps f zero s = s
+steps f (suc n) s = f n (steps f n s)
+
+pub steps-none {ℓ} : {A : Type ℓ} (f : ℕ → A → A) (s : A) → s ≡ steps f 0 s
+unfolding steps
+steps-none f s = refl
+
+-- one turn
+pub steps-turn {ℓ} : {A : Type ℓ} (f : ℕ → A → A) (n : ℕ) (s₀ s v : A) → s ≡ steps f n s₀ → v ≡ f n s → v ≡ steps f (n + 1) s₀
+unfolding steps
+steps-turn f n s₀ s v e g = rw (add-one, ← e) g
+
+-- the last turn is behind
+pub steps-end {ℓ} : {A : Type ℓ} (f : ℕ → A → A) (n m : ℕ) (s₀ s : A) → s ≡ steps f n s₀ → n ≡ m → s ≡ steps f m s₀
+steps-end f n m s₀ s g h = rw h at g
+
+-- a last step on the result
+pub steps-then {ℓ} : {A B : Type ℓ} (g : A → B) (f : ℕ → A → A) (n m : ℕ) (s₀ s : A) (r : B) → s ≡ steps f n s₀ → n ≡ m → r ≡ g s → r ≡ g (steps f m s₀)
+steps-then g f n m s₀ s r e h k = k ∙ ap g (steps-end f n m s₀ s e h)
+
+-- ---- n words written from place p on, in order; each may read all that is there before it is written
+
+unfoldable pub run : (ℕ → List ℤ → ℤ) → ℕ → ℕ → List ℤ → List ℤ
+run f p zero l = l
+run f p (suc n) l = set (run f p n l) (p + n) (f n (run f p n l))
+
+pub run-none : (f : ℕ → List ℤ → ℤ) (p : ℕ) (l : List ℤ) → l ≡ run f p 0 l
+unfolding run
+run-none f p l = refl
+
+run-more : (f : ℕ → List ℤ → ℤ) (p n : ℕ) (l : List ℤ) → run f p (n + 1) l ≡ set (run f p n l) (p + n) (f n (run f p n l))
+unfolding run
+run-more f p n l = rw add-one
+
+-- one turn
+pub write : (f : ℕ → List ℤ → ℤ) (p n : ℕ) (l out : List ℤ) (v : ℤ) → out ≡ run f p n l → v ≡ f n out → set out (p + n) v ≡ run f p (n + 1) l
+write f p n l out v e g = rw (run-more, ← e, g)
+
+-- the last turn is behind
+pub run-end : (f : ℕ → List ℤ → ℤ) (p n m : ℕ) (l out : List ℤ) → out ≡ run f p n l → n ≡ m → out ≡ run f p m l
+run-end f p n m l out g h = rw h at g
+
+pub length-run : (f : ℕ → List ℤ → ℤ) (p n : ℕ) (l : List ℤ) → length (run f p n l) ≡ length l
+unfolding run
+length-run f p zero l = refl
+length-run f p (suc n) l = length-set (run f p n l) (p + n) (f n (run f p n l)) ∙ length-run f p n l
+
+-- a list written over a part of another: what then stands up to the end of that part
+pub run-front : (l v : List ℤ) (p n : ℕ) → p + n ≤ length l → n ≤ length v → take (p + n) (run (λ k e. at v k) p n l) ≡ take p l ++ take n v
+unfolding run
+run-front l v p zero h q = rw add-zero (sym (append-nil (take p l)))
+run-front l v p (suc n) h q =
+    let e : length (run (λ k e. at v k) p n l) ≡ length l = length-run (λ k e. at v k) p n l in
+    let b : p + n < length (run (λ k e. at v k) p n l) = omega arith in
+    rw (add-suc, take-suc-set (run (λ k e. at v k) p n l) (p + n) (at v n) b, run-front l v p n (omega arith) (omega arith), take-suc v n (pos 0) q, append-assoc)
+
+pub put-end : (l v out : List ℤ) (p n m : ℕ) → out ≡ run (λ k e. at v k) p n l → n ≡ m → length v ≡ m → p + m ≤ length l → take (p + m) out ≡ take p l ++ v
+put-end l v out p n m g h e b = rw (g, h, run-front l v p m b (omega arith), take-all m v (omega arith))
