@@ -3,8 +3,9 @@ use Prim.Native.Nat.{ℕ, zero, suc, _+_, _-_, _*_, _%_, _^_, _≤_, _<_}
 use mathlib.Core.Path.{_≡_, refl, sym, ap, _∙_, subst}
 use mathlib.Core.Bool.{Bool, true, false}
 use native.Mathlib.Omega.{arith}
+use lib.Dec.{T}
 use lib.Bits.{bitAnd, and-mask}
-use lib.IntN.{ℤ, pos, negsuc, _-ℤ_}
+use lib.IntN.{ℤ, pos, negsuc, _+ℤ_, _-ℤ_}
 use lib.Signed.{mag, ltZ}
 use borrow.Author.Tests.{lt-ltb, le-ltb, ltb-true, ltb-false}
 use mir.Syntax.{w16, w32}
@@ -45,3 +46,21 @@ module _ (x : ℤ) {y : ℤ} (e : y ≡ pos (low16 x)) where
 pub fits-extract-l : (x : ℤ) → SFits w16 (extract-l x)
 unfolding extract-l
 fits-extract-l x = sfits-toZ (record { fits = low-lt x })
+
+-- a word's 16 bits, by the code's test on y, which is x read back
+module _ {y x : ℤ} (e : y ≡ x) (h : mag x < 2 ^ 15) where
+  pub low-add : ltZ y (pos 0) ≡ true → y +ℤ pos 65536 ≡ pos (low16 x)
+  unfolding low16
+  low-add p = rw e (go x h (rw e at p))
+    where
+      go : (x : ℤ) → mag x < 2 ^ 15 → ltZ x (pos 0) ≡ true → x +ℤ pos 65536 ≡ pos (low16 x)
+      go (pos n) h p = let q : n < 0 = ltb-true n 0 p in absurd (omega arith)
+      go (negsuc n) h p = rw (le-ltb 65536 (suc n) (omega arith)) (ap pos (omega arith))
+
+  pub low-same : ltZ y (pos 0) ≡ false → y ≡ pos (low16 x)
+  unfolding low16
+  low-same p = e ∙ go x h (rw e at p)
+    where
+      go : (x : ℤ) → mag x < 2 ^ 15 → ltZ x (pos 0) ≡ false → x ≡ pos (low16 x)
+      go (pos n) h p = ap pos (omega arith)
+      go (negsuc n) h p = let q : _≡_ {A = Bool} true false = p in absurd (subst T q tt)

@@ -3,12 +3,12 @@ use Prim.Native.Nat.{ℕ, zero, suc, _+_, _-_, _*_, _^_, _≤_, _<_, zero-le}
 use mathlib.Core.Path.{_≡_, refl, sym, ap, _∙_, subst}
 use mathlib.Core.Bool.{Bool, true, false, cond, _||_}
 use native.Mathlib.Omega.{arith}
-use native.Mathlib.Nat.{pow-suc}
+use native.Mathlib.Nat.{pow-suc, le-trans, le-of-eq, lt-of-lt-of-le, mul-le-mul-right, mul-lt-mul-of-pos-right}
 use lib.Count.{leadingZeros, leading-top, leading-of-zero, leading-length}
 use lib.Dec.{leb, ltb}
 use lib.IntN.{ℤ, pos, negsuc, _+ℤ_}
 use lib.Signed.{mag}
-use lib.Pow.{pow-mono}
+use lib.Pow.{pow-mono, pow-add, pow-pos}
 use borrow.Author.Tests.{lt-ltb, le-ltb, le-leb, lt-leb}
 use Rattle.basic_op.specs.Ops.{normal, doublings, norm-l}
 
@@ -75,3 +75,29 @@ norm-is (pos zero) n h = absurd (n refl)
 norm-is (pos (suc a)) n h = ap pos (zeros-are (pos (suc a)) (omega arith) h)
 norm-is (negsuc zero) n h = ap pos minus-one
 norm-is (negsuc (suc a)) n h = ap pos (zeros-are (negsuc (suc a)) (omega arith) h)
+
+-- ---- a positive number shifted left by its norm: 2 ^ 30 or more, and still in range
+
+module _ (n : ℕ) (p : 0 < n) (h : n < 2 ^ 31) where
+  top-digit : (j : ℕ) × (doublings 31 (pos n) + j ≡ 30) × (2 ^ j ≤ n) × (n < 2 ^ suc j)
+  top-digit = go (leading-top 32 n p (omega arith))
+    where
+      go : (j : ℕ) × (leadingZeros 32 n + suc j ≡ 32) × (2 ^ j ≤ n) × (n < 2 ^ suc j) → (j : ℕ) × (doublings 31 (pos n) + j ≡ 30) × (2 ^ j ≤ n) × (n < 2 ^ suc j)
+      go t = (t .0, omega (arith, t .1, zeros-are (pos n) p h, some-lead n h), t .2, t .3)
+
+  pub norm-few : doublings 31 (pos n) ≤ 30
+  norm-few = omega (arith, top-digit .1)
+
+  digits : (j : ℕ) → doublings 31 (pos n) + j ≡ 30 → 2 ^ 30 ≡ 2 ^ j * 2 ^ doublings 31 (pos n)
+  digits j e =
+      let k : 30 ≡ j + doublings 31 (pos n) = omega arith in
+      ap (λ (i : ℕ). 2 ^ i) k ∙ pow-add 2 j (doublings 31 (pos n))
+
+  pub norm-low : 2 ^ 30 ≤ n * 2 ^ doublings 31 (pos n)
+  norm-low = le-trans (le-of-eq (digits (top-digit .0) (top-digit .1))) (mul-le-mul-right _ (top-digit .2))
+
+  pub norm-high : n * 2 ^ doublings 31 (pos n) < 2 ^ 31
+  norm-high =
+      let d = doublings 31 (pos n) in
+      let k : suc (top-digit .0) + d ≡ 31 = omega (arith, top-digit .1) in
+      lt-of-lt-of-le (mul-lt-mul-of-pos-right (top-digit .3) (pow-pos d)) (le-of-eq (sym (pow-add 2 (suc (top-digit .0)) d) ∙ ap (λ (i : ℕ). 2 ^ i) k))

@@ -1,10 +1,11 @@
 // The basic operators of G.191 that the decoder uses. Each contract is an equation with a definition of specs/Ops.antt,
 // and asks nothing of the caller.
 ghost use mathlib.Core.Path.{_≡_};
-ghost use Prim.Native.Nat.{_^_, _<_};
+ghost use Prim.Native.Nat.{_^_, _<_, _≤_};
 ghost use lib.IntN.{pos, negsuc, natAbs, _+ℤ_, _-ℤ_, _*ℤ_};
 ghost use lib.Signed.{shrZ, mag};
-ghost use Rattle.basic_op.specs.Ops.{sat16, sat32, add, sub, l-mult, l-add, l-sub, l-mac, l-msu, mult, extract-h, extract-l, round, l-deposit-h, shl, l-shl, l-shr, l-shr-r, norm-l, overflow32, l-mult-overflow, l-msu-overflow, round-overflow, l-shl3-overflow};
+ghost use Rattle.basic_op.specs.Ops.{sat16, sat32, add, sub, l-mult, l-add, l-sub, l-mac, l-msu, mult, extract-h, extract-l, round, l-deposit-h, shl, l-shl, l-shr, l-shr-r, norm-l, low16, overflow32, l-mult-overflow, l-msu-overflow, round-overflow, l-shl3-overflow};
+ghost use Rattle.basic_op.specs.Oper32b.{split-high-low, join-high-low, multiply-split-by-16, multiply-32-by-16, interpolate-q15, log-fraction, base2-log};
 
 pub fn sat16(x: i32) -> i16
     ensures { λ r. ⌜ r ≡ sat16 x ⌝ }
@@ -268,4 +269,95 @@ pub fn l_shl3_overflow(x: i32) -> bool
     ensures { λ r. ⌜ r ≡ l-shl3-overflow x ⌝ }
 {
     overflow32(x as i64 * 8)
+}
+
+// The 16 bits of x in two's complement, as an unsigned number.
+pub fn low16(x: i16) -> u16
+    ensures { λ r. ⌜ r ≡ low16 x ⌝ }
+{
+    if x < 0 {
+        (x as i32 + 65536) as u16
+    } else {
+        x as u16
+    }
+}
+
+// ---- the extended operators of oper_32b
+
+// A 32-bit value as its upper 16 bits and the 15 bits below them.
+pub struct Split {
+    pub upper: i16,
+    pub lower: i16,
+}
+
+pub fn split_high_low(value: i32) -> Split
+    ensures { λ r. ⌜ r ≡ split-high-low value ⌝ }
+{
+    let upper = extract_h(value);
+    let remainder = l_msu(sar32(value, 1), upper, 16384);
+    Split {
+        upper,
+        lower: extract_l(remainder),
+    }
+}
+
+pub fn join_high_low(upper: i16, lower: i16) -> i32
+    ensures { λ r. ⌜ r ≡ join-high-low upper lower ⌝ }
+{
+    l_mac(l_deposit_h(upper), lower, 1)
+}
+
+pub fn multiply_split_by_16(upper: i16, lower: i16, factor: i16) -> i32
+    ensures { λ r. ⌜ r ≡ multiply-split-by-16 upper lower factor ⌝ }
+{
+    l_mac(l_mult(upper, factor), mult(lower, factor), 1)
+}
+
+pub fn multiply_32_by_16(value: i32, factor: i16) -> i32
+    ensures { λ r. ⌜ r ≡ multiply-32-by-16 value factor ⌝ }
+{
+    let s = split_high_low(value);
+    multiply_split_by_16(s.upper, s.lower, factor)
+}
+
+// From one entry of a table toward the next by a weight in Q15.
+pub fn interpolate_q15(entry: i16, next: i16, weight: i16) -> i32
+    ensures { λ r. ⌜ r ≡ interpolate-q15 entry next weight ⌝ }
+{
+    l_msu(l_deposit_h(entry), sub(entry, next), weight)
+}
+
+// ---- the base-2 logarithm and power of clause 3.9.1
+
+pub struct Log2 {
+    pub integer: i16,
+    pub fraction: i16,
+}
+
+// The logarithm's fraction of a normalized value, 2^30 or more.
+fn log_fraction(m: u32, table: &[i16; 33]) -> i16
+    requires { ⌜ (2 ^ 30 ≤ m) × (m < 2 ^ 31) ⌝ }
+    ensures { λ r. ⌜ r ≡ log-fraction m (now (table .entry)) ⌝ }
+{
+    let segment = (m / 33554432) as usize;
+    let weight = (m / 1024 % 32768) as i16;
+    extract_h(interpolate_q15(table[segment - 32], table[segment - 31], weight))
+}
+
+// The base-2 logarithm of a positive value; 0 and 0 of any other.
+pub fn base2_log(value: i32, table: &[i16; 33]) -> Log2
+    ensures { λ r. ⌜ r ≡ base2-log value (now (table .entry)) ⌝ }
+{
+    if value < 1 {
+        return Log2 {
+            integer: 0,
+            fraction: 0,
+        };
+    }
+    let left = norm_l(value);
+    let m = l_shl(value, left) as u32;
+    Log2 {
+        integer: 30 - left,
+        fraction: log_fraction(m, table),
+    }
 }

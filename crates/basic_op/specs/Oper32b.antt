@@ -1,0 +1,40 @@
+-- The extended operators that G.729 Table 15 names (oper_32b), on a 32-bit value split into its upper 16 bits and the 15 bits below them,
+-- and the base-2 logarithm and power of clause 3.9.1. The Recommendation's text leaves the rounding of these open: the steps are the Rust's,
+-- which are those of the reference's L_Extract, L_Comp, Mpy_32_16, Log2 and Pow2. `Meaning` says what a split is.
+use Prim.Native.Nat.{ℕ, zero, suc, _+_, _-_, _*_, _/_, _%_, _^_}
+use mathlib.Core.List.{List}
+use lib.IntN.{ℤ, pos, negsuc, natAbs, _-ℤ_}
+use lib.Signed.{shrZ}
+use Rattle.laws.specs.Lists.{at}
+use Rattle.basic_op.specs.declared.Split.{Split}
+use Rattle.basic_op.specs.declared.Log2.{Log2}
+use Rattle.basic_op.specs.Ops.{sub, mult, l-mult, l-mac, l-msu, l-deposit-h, extract-h, extract-l, norm-l}
+
+unfoldable pub split-high-low : ℤ → Split
+split-high-low x = record { upper = extract-h x; lower = extract-l (l-msu (shrZ x 2) (extract-h x) (pos 16384)) }
+
+unfoldable pub join-high-low : ℤ → ℤ → ℤ
+join-high-low upper lower = l-mac (l-deposit-h upper) lower (pos 1)
+
+-- a split number times a factor in Q15
+unfoldable pub multiply-split-by-16 : ℤ → ℤ → ℤ → ℤ
+multiply-split-by-16 upper lower factor = l-mac (l-mult upper factor) (mult lower factor) (pos 1)
+
+unfoldable pub multiply-32-by-16 : ℤ → ℤ → ℤ
+multiply-32-by-16 x factor = multiply-split-by-16 ((split-high-low x) .upper) ((split-high-low x) .lower) factor
+
+-- from one entry of a table toward the next by a weight in Q15, in the upper half of the result
+unfoldable pub interpolate-q15 : ℤ → ℤ → ℤ → ℤ
+interpolate-q15 entry next weight = l-msu (l-deposit-h entry) (sub entry next) weight
+
+-- the same in a table: m has the place in its bits from 25 on, 32 and more, and the weight in bits 10 to 24
+unfoldable pub log-fraction : ℕ → List ℤ → ℤ
+log-fraction m table =
+    extract-h (interpolate-q15 (at table (m / 2 ^ 25 - 32)) (at table (m / 2 ^ 25 - 31)) (pos (m / 2 ^ 10 % 2 ^ 15)))
+
+-- the logarithm to the base 2 of a positive value, whole part and fraction in Q15, where `table` has log2(1 + i / 32) in Q15; 0 and 0 of any other
+unfoldable pub base2-log : ℤ → List ℤ → Log2
+base2-log (negsuc n) table = record { integer = pos 0; fraction = pos 0 }
+base2-log (pos zero) table = record { integer = pos 0; fraction = pos 0 }
+base2-log (pos (suc n)) table =
+    record { integer = pos 30 -ℤ norm-l (pos (suc n)); fraction = log-fraction (suc n * 2 ^ natAbs (norm-l (pos (suc n)))) table }
