@@ -1,5 +1,6 @@
-// The basic operators of G.191 that the decoder uses. Each contract is an equation with a definition of specs/Ops.antt,
-// and asks nothing of the caller.
+// The basic operators of ITU-T G.191 (G.729 clause 5.2, Table 11) and the extended ones of oper_32b (Table 15) that the voice path calls.
+// Each contract is an equation with a definition of specs/Ops.antt or specs/Oper32b.antt, for every input. No operator keeps a flag:
+// whether one saturates is asked of a function of its own, which synthesis alone calls.
 ghost use mathlib.Core.Path.{_≡_};
 ghost use Prim.Native.Nat.{_^_, _<_, _≤_};
 ghost use lib.IntN.{pos, negsuc, natAbs, _+ℤ_, _-ℤ_, _*ℤ_};
@@ -7,6 +8,9 @@ ghost use lib.Signed.{shrZ, mag};
 ghost use Rattle.basic_op.specs.Ops.{sat16, sat32, add, sub, l-mult, l-add, l-sub, l-mac, l-msu, mult, extract-h, extract-l, round, l-deposit-h, shl, l-shl, l-shr, l-shr-r, norm-l, low16, overflow32, l-mult-overflow, l-msu-overflow, round-overflow, l-shl3-overflow};
 ghost use Rattle.basic_op.specs.Oper32b.{split-high-low, join-high-low, multiply-split-by-16, multiply-32-by-16, interpolate-q15, log-fraction, base2-log};
 
+// ---- saturation
+
+// x, or the nearer end of 16 bits.
 pub fn sat16(x: i32) -> i16
     ensures { λ r. ⌜ r ≡ sat16 x ⌝ }
 {
@@ -19,6 +23,7 @@ pub fn sat16(x: i32) -> i16
     }
 }
 
+// x, or the nearer end of 32 bits.
 pub fn sat32(x: i64) -> i32
     ensures { λ r. ⌜ r ≡ sat32 x ⌝ }
 {
@@ -31,66 +36,79 @@ pub fn sat32(x: i64) -> i32
     }
 }
 
+// ---- sums and products
+
+// 16-bit addition with saturation.
 pub fn add(a: i16, b: i16) -> i16
     ensures { λ r. ⌜ r ≡ add a b ⌝ }
 {
     sat16(a as i32 + b as i32)
 }
 
+// 16-bit subtraction with saturation.
 pub fn sub(a: i16, b: i16) -> i16
     ensures { λ r. ⌜ r ≡ sub a b ⌝ }
 {
     sat16(a as i32 - b as i32)
 }
 
+// L_mult: 2ab in 32 bits; only -32768 by itself saturates.
 pub fn l_mult(a: i16, b: i16) -> i32
     ensures { λ r. ⌜ r ≡ l-mult a b ⌝ }
 {
     sat32(2 * (a as i64 * b as i64))
 }
 
+// L_add: 32-bit addition with saturation.
 pub fn l_add(a: i32, b: i32) -> i32
     ensures { λ r. ⌜ r ≡ l-add a b ⌝ }
 {
     sat32(a as i64 + b as i64)
 }
 
+// L_sub: 32-bit subtraction with saturation.
 pub fn l_sub(a: i32, b: i32) -> i32
     ensures { λ r. ⌜ r ≡ l-sub a b ⌝ }
 {
     sat32(a as i64 - b as i64)
 }
 
+// L_mac: the product saturates first, then the sum.
 pub fn l_mac(acc: i32, a: i16, b: i16) -> i32
     ensures { λ r. ⌜ r ≡ l-mac acc a b ⌝ }
 {
     l_add(acc, l_mult(a, b))
 }
 
+// L_msu: the product saturates first, then the difference.
 pub fn l_msu(acc: i32, a: i16, b: i16) -> i32
     ensures { λ r. ⌜ r ≡ l-msu acc a b ⌝ }
 {
     l_sub(acc, l_mult(a, b))
 }
 
+// The product in Q15, rounded down; -32768 by itself saturates.
 pub fn mult(a: i16, b: i16) -> i16
     ensures { λ r. ⌜ r ≡ mult a b ⌝ }
 {
-    sat16((a as i32 * b as i32) >> 15)
+    sat16(sar32(a as i32 * b as i32, 15))
 }
 
+// The upper 16 bits.
 pub fn extract_h(x: i32) -> i16
     ensures { λ r. ⌜ r ≡ extract-h x ⌝ }
 {
-    (x >> 16) as i16
+    sar32(x, 16) as i16
 }
 
+// The upper 16 bits, rounded: the sum with half a step saturates.
 pub fn round(x: i32) -> i16
     ensures { λ r. ⌜ r ≡ round x ⌝ }
 {
     extract_h(l_add(x, 32768))
 }
 
+// The lower 16 bits, read as a signed number.
 pub fn extract_l(x: i32) -> i16
     ensures { λ r. ⌜ r ≡ extract-l x ⌝ }
 {
@@ -102,13 +120,16 @@ pub fn extract_l(x: i32) -> i16
     }
 }
 
+// a in the upper 16 bits.
 pub fn l_deposit_h(a: i16) -> i32
     ensures { λ r. ⌜ r ≡ l-deposit-h a ⌝ }
 {
     a as i32 * 65536
 }
 
-// Arithmetic right shifts: the floor division by 2 ^ n, for every n.
+// ---- shifts
+
+// Arithmetic right shifts at three widths: the floor division by 2 ^ n, for every n.
 pub fn sar16(a: i16, n: u32) -> i16
     ensures { λ r. ⌜ r ≡ shrZ a (2 ^ n) ⌝ }
 {
@@ -136,7 +157,7 @@ pub fn sar64(x: i64, n: u32) -> i64
     x >> n
 }
 
-// The count of a shift, without its sign.
+// The count of a shift without its sign, also at the end of the range.
 fn count(n: i16) -> u32
     ensures { λ r. ⌜ r ≡ natAbs n ⌝ }
 {
@@ -180,6 +201,7 @@ fn l_shl_by(x: i32, n: u32) -> i32
     sat32(x as i64 * pow64(n))
 }
 
+// Left by n with saturation, or right where n is negative.
 pub fn shl(a: i16, n: i16) -> i16
     ensures { λ r. ⌜ r ≡ shl a n ⌝ }
 {
@@ -189,6 +211,7 @@ pub fn shl(a: i16, n: i16) -> i16
     shl_by(a, count(n))
 }
 
+// L_shl: left by n with saturation, or right where n is negative.
 pub fn l_shl(x: i32, n: i16) -> i32
     ensures { λ r. ⌜ r ≡ l-shl x n ⌝ }
 {
@@ -198,6 +221,7 @@ pub fn l_shl(x: i32, n: i16) -> i32
     l_shl_by(x, count(n))
 }
 
+// L_shr: right by n, or left with saturation where n is negative.
 pub fn l_shr(x: i32, n: i16) -> i32
     ensures { λ r. ⌜ r ≡ l-shr x n ⌝ }
 {
@@ -207,6 +231,7 @@ pub fn l_shr(x: i32, n: i16) -> i32
     sar32(x, count(n))
 }
 
+// L_shr_r: the same with rounding; 0 where n is above 31.
 pub fn l_shr_r(x: i32, n: i16) -> i32
     ensures { λ r. ⌜ r ≡ l-shr-r x n ⌝ }
 {
@@ -221,8 +246,10 @@ pub fn l_shr_r(x: i32, n: i16) -> i32
         return 0;
     }
     let half = sar32(x, k - 1);
-    ((half as i64 + 1) >> 1) as i32
+    sar64(half as i64 + 1, 1) as i32
 }
+
+// ---- normalization
 
 // x, or its complement -1 - x where it is negative.
 fn magnitude(x: i32) -> u32
@@ -231,6 +258,7 @@ fn magnitude(x: i32) -> u32
     if x < 0 { (-1 - x) as u32 } else { x as u32 }
 }
 
+// How many doublings bring x into the upper half of the range: the leading zeros of its magnitude less 1; 0 stays 0.
 pub fn norm_l(x: i32) -> i16
     ensures { λ r. ⌜ r ≡ norm-l x ⌝ }
 {
@@ -240,31 +268,36 @@ pub fn norm_l(x: i32) -> i16
     (u32::leading_zeros(magnitude(x)) - 1) as i16
 }
 
-// Whether an operator saturates.
+// ---- whether an operator saturates
+
 fn overflow32(x: i64) -> bool
     ensures { λ r. ⌜ r ≡ overflow32 x ⌝ }
 {
     (x > 2147483647) | (x < -2147483648)
 }
 
+// Of l_mult.
 pub fn l_mult_overflow(a: i16, b: i16) -> bool
     ensures { λ r. ⌜ r ≡ l-mult-overflow a b ⌝ }
 {
     overflow32(2 * (a as i64 * b as i64))
 }
 
+// Of l_msu, its product or its difference.
 pub fn l_msu_overflow(acc: i32, a: i16, b: i16) -> bool
     ensures { λ r. ⌜ r ≡ l-msu-overflow acc a b ⌝ }
 {
     l_mult_overflow(a, b) | overflow32(acc as i64 - l_mult(a, b) as i64)
 }
 
+// Of round.
 pub fn round_overflow(x: i32) -> bool
     ensures { λ r. ⌜ r ≡ round-overflow x ⌝ }
 {
     overflow32(x as i64 + 32768)
 }
 
+// Of l_shl(x, 3).
 pub fn l_shl3_overflow(x: i32) -> bool
     ensures { λ r. ⌜ r ≡ l-shl3-overflow x ⌝ }
 {
@@ -290,6 +323,7 @@ pub struct Split {
     pub lower: i16,
 }
 
+// L_Extract: the value is upper * 2^16 + lower * 2 and its last bit.
 pub fn split_high_low(value: i32) -> Split
     ensures { λ r. ⌜ r ≡ split-high-low value ⌝ }
 {
@@ -301,18 +335,21 @@ pub fn split_high_low(value: i32) -> Split
     }
 }
 
+// L_Comp: upper * 2^16 + lower * 2.
 pub fn join_high_low(upper: i16, lower: i16) -> i32
     ensures { λ r. ⌜ r ≡ join-high-low upper lower ⌝ }
 {
     l_mac(l_deposit_h(upper), lower, 1)
 }
 
+// Mpy_32_16: a split number times a factor in Q15.
 pub fn multiply_split_by_16(upper: i16, lower: i16, factor: i16) -> i32
     ensures { λ r. ⌜ r ≡ multiply-split-by-16 upper lower factor ⌝ }
 {
     l_mac(l_mult(upper, factor), mult(lower, factor), 1)
 }
 
+// A 32-bit value, split, times a factor in Q15.
 pub fn multiply_32_by_16(value: i32, factor: i16) -> i32
     ensures { λ r. ⌜ r ≡ multiply-32-by-16 value factor ⌝ }
 {

@@ -8,7 +8,7 @@ use mir.Facts.{toZ-ofZ, sfits-widen, sfits-lit}
 use Rattle.basic_op.specs.Ops.{l-shr-r, rounded}
 use Rattle.laws.specs.Range.{fits-add, fits-half}
 use Rattle.basic_op.specs.Laws.{by-pos, by-neg, rounded-zero, rounded-far, rounded-in}
-use Rattle.laws.specs.Back.{came, fits-came, keep, back-shr}
+use Rattle.laws.specs.Back.{came, fits-came, keep}
 use Rattle.basic_op.proofs.l_shr_r.Statement.{statement}
 use Rattle.basic_op.proofs.l_shr_r.Tie as tie
 
@@ -44,23 +44,29 @@ sub-sar32 c = search needs
 sar32-requires : tie.Need-sar32-requires
 sar32-requires c κs = search needs
 
+cast-sar64 : tie.Need-cast-sar64
+cast-sar64 c = sfits-widen tt (keep w32 tt (fits-came w32 (c .sar32)))
+
+add-sar64 : tie.Need-add-sar64
+add-sar64 c = fits-add w32 w16 w64 _ (pos 1) (keep w64 tt (keep w32 tt (fits-came w32 (c .sar32)))) (sfits-lit tt) tt
+
+sar64-requires : tie.Need-sar64-requires
+sar64-requires c κs = search needs
+
 cast-result : tie.Need-cast-result
-cast-result c = sfits-widen tt (keep w32 tt (fits-came w32 (c .sar32)))
-
-add-result : tie.Need-add-result
-add-result c = fits-add w32 w16 w64 _ (pos 1) (keep w64 tt (keep w32 tt (fits-came w32 (c .sar32)))) (sfits-lit tt) tt
-
-cast-result-2 : tie.Need-cast-result-2
-cast-result-2 c = rw (toZ-ofZ (add-result c)) (keep w64 tt (fits-half _ (keep w64 tt (keep w32 tt (fits-came w32 (c .sar32))))))
+cast-result c =
+    rw (came w64 (c .sar64), c .sar64 .ensures, toZ-ofZ (add-sar64 (c .before)))
+    (fits-half _ (keep w64 tt (keep w32 tt (fits-came w32 (c .before .sar32)))))
 
 returns-4 : tie.Need-returns-4
 unfolding l-shr-r
 returns-4 c =
-    let s = c .before .before .before .before .before in
+    let b = c .before in
+    let s = b .before .before .before .before .before in
     let x = s .args .x in
-    (cc (toZ-ofZ (cast-result-2 c), back-shr w64 _ 2 (add-result c), toZ-ofZ (cast-result c), came w32 (c .sar32), toZ-ofZ (s .fits .x)))
-    ∙ rounded-in x _ (c .before .before .if2 .left) (c .before .if3 .left)
-    ∙ ap (rounded x) (c .before .before .before .before .count .ensures ∙ ap natAbs (toZ-ofZ (s .fits .n))) ∙ by-pos (toZ-ofZ (s .fits .n)) _ _ (c .before .before .before .if1 .left)
+    (cc (toZ-ofZ (cast-result c), came w64 (c .sar64), toZ-ofZ (add-sar64 b), toZ-ofZ (cast-sar64 b), came w32 (b .sar32), toZ-ofZ (s .fits .x)))
+    ∙ rounded-in x _ (b .before .before .if2 .left) (b .before .if3 .left)
+    ∙ ap (rounded x) (b .before .before .before .before .count .ensures ∙ ap natAbs (toZ-ofZ (s .fits .n))) ∙ by-pos (toZ-ofZ (s .fits .n)) _ _ (b .before .before .before .if1 .left)
 
 pub l-shr-r-spec : {M : Type 1} → statement M
-l-shr-r-spec = tie.close (tie.spec count-requires l-shl-by-requires returns returns-2 returns-3 sub-sar32 sar32-requires cast-result add-result cast-result-2 returns-4)
+l-shr-r-spec = tie.close (tie.spec count-requires l-shl-by-requires returns returns-2 returns-3 sub-sar32 sar32-requires cast-sar64 add-sar64 sar64-requires cast-result returns-4)

@@ -1,0 +1,2 @@
+-- The table block and the tables by formula, which the contracts of `tables` cite.
+pub mod Layout

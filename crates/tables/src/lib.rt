@@ -1,0 +1,231 @@
+// The decoder's tables (clauses 3 to 4.4 of G.729). The trained ones are handed in as one block of 1,880 words, read here:
+// every reader takes any block, and a word past its end reads as 0. Those by formula are in `formula`, stated constants in `text`.
+ghost use mathlib.Core.Path.{_≡_};
+ghost use Prim.Native.Nat.{ℕ, _+_, _<_, _≤_};
+ghost use lib.ListN.{length};
+ghost use Rattle.laws.specs.Lists.{at, tab};
+ghost use Rattle.tables.specs.Layout.{row, lsp-cb1, lsp-cb2, lsp-ma, lsp-ma-sum, lsp-ma-sum-inv, b30, gain-ga, gain-gb, map-ga, map-gb, log2, initial-lsp, place, scalar, table-check};
+
+// The scalars of the block, in its order.
+pub enum Scalar {
+    // Upper bound of the pitch-sharpening factor, Q14.
+    PitchSharpeningMax,
+    // Integer pitch delay assumed before the first frame.
+    InitialPreviousPitchDelay,
+    // Amplitude of a positive fixed-codebook pulse, Q13.
+    FixedCodebookPulsePositive,
+    // Gain prediction: base-2 log to dB scale, Q13.
+    GainPredictionLogScale,
+    // Gain prediction: mean energy, mantissa.
+    GainPredictionMeanEnergyMantissa,
+    // Gain prediction: mean energy, multiplier.
+    GainPredictionMeanEnergyMultiplier,
+    // Gain prediction: dB to base-2 exponent, Q15.
+    GainPredictionDbToLog2,
+    // Gain-predictor update: base-2 log to dB, Q12.
+    GainUpdateLog2ToDb,
+    // Erasure: upper limit of the attenuated pitch gain.
+    ErasurePitchGainLimit,
+    // Erasure: fixed-codebook gain attenuation, Q15.
+    ErasureFixedGainAttenuation,
+    // LSF to LSP: radians to table index scale, Q17.
+    LsfToLspFrequencyScale,
+    // LSF stability: lowest first LSF, Q13.
+    LsfStabilityLowLimit,
+    // LSF stability: highest last LSF, Q13.
+    LsfStabilityHighLimit,
+    // LSF stability: minimum distance, Q13.
+    LsfStabilityMinDistance,
+}
+
+// Word n of the block.
+pub fn word(t: &[i16], n: usize) -> i16
+    ensures { λ r. ⌜ r ≡ at (now (t .entry)) n ⌝ }
+{
+    if n < t.len() { t[n] } else { 0 }
+}
+
+// The words from n on, as many as out has, where the block has them all.
+fn copy(t: &[i16], n: usize, out: &mut [i16])
+    requires { ⌜ n + length (now out) ≤ length (now t) ⌝ }
+    ensures { λ r. ⌜ now (out .exit) ≡ tab (length (now (out .entry))) (λ k. at (now (t .entry)) (n + k)) ⌝ }
+{
+    let mut i = 0;
+    while i < out.len() {
+        out[i] = t[n + i];
+        i += 1;
+    }
+}
+
+// The same where the block may end before them.
+fn copy_short(t: &[i16], n: usize, out: &mut [i16])
+    requires { ⌜ n < 4294967296 ⌝ }
+    ensures { λ r. ⌜ now (out .exit) ≡ tab (length (now (out .entry))) (λ k. at (now (t .entry)) (n + k)) ⌝ }
+{
+    let mut i = 0;
+    while i < out.len() {
+        out[i] = word(t, n + i);
+        i += 1;
+    }
+}
+
+// The words from n on, as many as out has. The length is tested once, so that the copy of a whole block tests no word.
+fn words(t: &[i16], n: usize, out: &mut [i16])
+    requires { ⌜ n < 4294967296 ⌝ }
+    ensures { λ r. ⌜ now (out .exit) ≡ tab (length (now (out .entry))) (λ k. at (now (t .entry)) (n + k)) ⌝ }
+{
+    if n + out.len() <= t.len() {
+        copy(t, n, out);
+    } else {
+        copy_short(t, n, out);
+    }
+}
+
+// The ten words at n.
+fn row(t: &[i16], n: usize) -> [i16; 10]
+    requires { ⌜ n < 4294967296 ⌝ }
+    ensures { λ r. ⌜ r ≡ row (now (t .entry)) n ⌝ }
+{
+    let mut out = [0i16; 10];
+    words(t, n, &mut out);
+    out
+}
+
+// Row i of the first LSF codebook (clause 3.2.4).
+pub fn lsp_cb1(t: &[i16], i: u16) -> [i16; 10]
+    ensures { λ r. ⌜ r ≡ lsp-cb1 (now (t .entry)) i ⌝ }
+{
+    row(t, 10 * (i as usize))
+}
+
+// Row i of the second LSF codebooks (clause 3.2.4).
+pub fn lsp_cb2(t: &[i16], i: u16) -> [i16; 10]
+    ensures { λ r. ⌜ r ≡ lsp-cb2 (now (t .entry)) i ⌝ }
+{
+    row(t, 1280 + 10 * (i as usize))
+}
+
+// The moving-average weights of predictor p (clause 3.2.4).
+pub fn lsp_ma(t: &[i16], p: u16) -> [[i16; 10]; 4]
+    ensures { λ r. ⌜ r ≡ lsp-ma (now (t .entry)) p ⌝ }
+{
+    let n = 40 * (p as usize);
+    let a = row(t, 1600 + n);
+    let b = row(t, 1610 + n);
+    let c = row(t, 1620 + n);
+    let d = row(t, 1630 + n);
+    [a, b, c, d]
+}
+
+// The complement of predictor p's weights (clause 3.2.4).
+pub fn lsp_ma_sum(t: &[i16], p: u16) -> [i16; 10]
+    ensures { λ r. ⌜ r ≡ lsp-ma-sum (now (t .entry)) p ⌝ }
+{
+    row(t, 1680 + 10 * (p as usize))
+}
+
+// Its inverse, for the memory of an erased frame (clause 4.4.1).
+pub fn lsp_ma_sum_inv(t: &[i16], p: u16) -> [i16; 10]
+    ensures { λ r. ⌜ r ≡ lsp-ma-sum-inv (now (t .entry)) p ⌝ }
+{
+    row(t, 1700 + 10 * (p as usize))
+}
+
+// The interpolation filter of the adaptive codebook (clause 3.7.1).
+pub fn b30(t: &[i16]) -> [i16; 31]
+    ensures { λ r. ⌜ r ≡ b30 (now (t .entry)) ⌝ }
+{
+    let mut out = [0i16; 31];
+    words(t, 1720, &mut out);
+    out
+}
+
+// Word j of row i of the gain codebook GA (clause 3.9.2).
+pub fn gain_ga(t: &[i16], i: u16, j: u16) -> i16
+    ensures { λ r. ⌜ r ≡ gain-ga (now (t .entry)) i j ⌝ }
+{
+    word(t, 1751 + 2 * (i as usize) + (j as usize))
+}
+
+// Word j of row i of the gain codebook GB (clause 3.9.2).
+pub fn gain_gb(t: &[i16], i: u16, j: u16) -> i16
+    ensures { λ r. ⌜ r ≡ gain-gb (now (t .entry)) i j ⌝ }
+{
+    word(t, 1767 + 2 * (i as usize) + (j as usize))
+}
+
+// The row of GA for the transmitted index i (clause 3.9.3).
+pub fn map_ga(t: &[i16], i: u16) -> i16
+    ensures { λ r. ⌜ r ≡ map-ga (now (t .entry)) i ⌝ }
+{
+    word(t, 1799 + (i as usize))
+}
+
+// The row of GB for the transmitted index i (clause 3.9.3).
+pub fn map_gb(t: &[i16], i: u16) -> i16
+    ensures { λ r. ⌜ r ≡ map-gb (now (t .entry)) i ⌝ }
+{
+    word(t, 1807 + (i as usize))
+}
+
+// The base-2 logarithm table (clause 3.9.1).
+pub fn log2(t: &[i16]) -> [i16; 33]
+    ensures { λ r. ⌜ r ≡ log2 (now (t .entry)) ⌝ }
+{
+    let mut out = [0i16; 33];
+    words(t, 1823, &mut out);
+    out
+}
+
+// The LSP vector of the frame before the first (clause 3.2.5).
+pub fn initial_lsp(t: &[i16]) -> [i16; 10]
+    ensures { λ r. ⌜ r ≡ initial-lsp (now (t .entry)) ⌝ }
+{
+    row(t, 1856)
+}
+
+// The place of a scalar among the scalars.
+fn place(s: Scalar) -> usize
+    ensures { λ r. ⌜ r ≡ place s ⌝ }
+{
+    match s {
+        Scalar::PitchSharpeningMax => 0,
+        Scalar::InitialPreviousPitchDelay => 1,
+        Scalar::FixedCodebookPulsePositive => 2,
+        Scalar::GainPredictionLogScale => 3,
+        Scalar::GainPredictionMeanEnergyMantissa => 4,
+        Scalar::GainPredictionMeanEnergyMultiplier => 5,
+        Scalar::GainPredictionDbToLog2 => 6,
+        Scalar::GainUpdateLog2ToDb => 7,
+        Scalar::ErasurePitchGainLimit => 8,
+        Scalar::ErasureFixedGainAttenuation => 9,
+        Scalar::LsfToLspFrequencyScale => 10,
+        Scalar::LsfStabilityLowLimit => 11,
+        Scalar::LsfStabilityHighLimit => 12,
+        Scalar::LsfStabilityMinDistance => 13,
+    }
+}
+
+// A scalar of the block. (Beside the enum `Scalar` no function can be called `scalar`; the field of the block is.)
+pub fn scalars(t: &[i16], s: Scalar) -> i16
+    ensures { λ r. ⌜ r ≡ scalar (now (t .entry)) s ⌝ }
+{
+    word(t, 1866 + place(s))
+}
+
+// Whether a block can be used: 0, or 1 for another length, or 2 for an initial delay below 19 or above 144.
+pub fn table_check(t: &[i16]) -> u32
+    ensures { λ r. ⌜ r ≡ table-check (now (t .entry)) ⌝ }
+{
+    if t.len() != 1880 {
+        return 1;
+    }
+    let delay = scalars(t, Scalar::InitialPreviousPitchDelay);
+    if delay < 19 {
+        return 2;
+    }
+    if delay > 144 {
+        return 2;
+    }
+    0
+}
