@@ -5,3 +5,4 @@ pub mod Laws
 pub mod Norm
 pub mod Low
 pub mod Log
+pub mod Values

@@ -6,9 +6,10 @@ use mathlib.Core.List.{List}
 use lib.IntN.{ℤ, pos, negsuc, natAbs, _-ℤ_}
 use lib.Signed.{shrZ}
 use Rattle.laws.specs.Lists.{at}
+use Rattle.tables.specs.Formula.{pow2}
 use Rattle.basic_op.specs.declared.Split.{Split}
 use Rattle.basic_op.specs.declared.Log2.{Log2}
-use Rattle.basic_op.specs.Ops.{sub, mult, l-mult, l-mac, l-msu, l-deposit-h, extract-h, extract-l, norm-l}
+use Rattle.basic_op.specs.Ops.{sub, mult, l-mult, l-mac, l-msu, l-deposit-h, l-shr-r, extract-h, extract-l, low16, norm-l}
 
 unfoldable pub split-high-low : ℤ → Split
 split-high-low x = record { upper = extract-h x; lower = extract-l (l-msu (shrZ x 2) (extract-h x) (pos 16384)) }
@@ -38,3 +39,10 @@ base2-log (negsuc n) table = record { integer = pos 0; fraction = pos 0 }
 base2-log (pos zero) table = record { integer = pos 0; fraction = pos 0 }
 base2-log (pos (suc n)) table =
     record { integer = pos 30 -ℤ norm-l (pos (suc n)); fraction = log-fraction (suc n * 2 ^ natAbs (norm-l (pos (suc n)))) table }
+
+-- 2 to the power of integer + fraction, the fraction in Q15: bits 10 to 14 of it are the place in the table of 2^(i / 32), bits 0 to 9 the weight
+unfoldable pub base2-power : ℤ → ℤ → ℤ
+base2-power integer fraction =
+    l-shr-r
+    (interpolate-q15 (at pow2 (low16 fraction / 1024 % 32)) (at pow2 (low16 fraction / 1024 % 32 + 1)) (pos (32 * (low16 fraction % 1024))))
+    (sub (pos 30) integer)

@@ -6,7 +6,8 @@ ghost use Prim.Native.Nat.{_^_, _<_, _≤_};
 ghost use lib.IntN.{pos, negsuc, natAbs, _+ℤ_, _-ℤ_, _*ℤ_};
 ghost use lib.Signed.{shrZ, mag};
 ghost use Rattle.basic_op.specs.Ops.{sat16, sat32, add, sub, l-mult, l-add, l-sub, l-mac, l-msu, mult, extract-h, extract-l, round, l-deposit-h, shl, l-shl, l-shr, l-shr-r, norm-l, low16, overflow32, l-mult-overflow, l-msu-overflow, round-overflow, l-shl3-overflow};
-ghost use Rattle.basic_op.specs.Oper32b.{split-high-low, join-high-low, multiply-split-by-16, multiply-32-by-16, interpolate-q15, log-fraction, base2-log};
+ghost use Rattle.basic_op.specs.Oper32b.{split-high-low, join-high-low, multiply-split-by-16, multiply-32-by-16, interpolate-q15, log-fraction, base2-log, base2-power};
+use tables::formula;
 
 // ---- saturation
 
@@ -397,4 +398,15 @@ pub fn base2_log(value: i32, table: &[i16; 33]) -> Log2
         integer: 30 - left,
         fraction: log_fraction(m, table),
     }
+}
+
+// 2 to the power of integer + fraction (Q15), through the table of 2^(i / 32).
+pub fn base2_power(integer: i16, fraction: i16) -> i32
+    ensures { λ r. ⌜ r ≡ base2-power integer fraction ⌝ }
+{
+    let f = low16(fraction);
+    let segment = (f / 1024 % 32) as usize;
+    let weight = (32 * (f % 1024)) as i16;
+    let mantissa = interpolate_q15(formula::pow2(segment), formula::pow2(segment + 1), weight);
+    l_shr_r(mantissa, sub(30, integer))
 }

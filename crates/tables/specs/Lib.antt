@@ -1,2 +1,3 @@
 -- The table block and the tables by formula, which the contracts of `tables` cite.
 pub mod Layout
+pub mod Formula

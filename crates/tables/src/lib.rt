@@ -6,6 +6,9 @@ ghost use lib.ListN.{length};
 ghost use Rattle.laws.specs.Lists.{at, tab};
 ghost use Rattle.tables.specs.Layout.{row, lsp-cb1, lsp-cb2, lsp-ma, lsp-ma-sum, lsp-ma-sum-inv, b30, gain-ga, gain-gb, map-ga, map-gb, log2, initial-lsp, place, scalar, table-check};
 
+pub mod formula;
+pub mod text;
+
 // The scalars of the block, in its order.
 pub enum Scalar {
     // Upper bound of the pitch-sharpening factor, Q14.

@@ -1,0 +1,119 @@
+// One call of an operator by its number in the list.
+use crate::hex::pattern;
+use crate::hex::signed;
+use crate::hex::word;
+
+pub struct Results {
+    pub first: u32,
+    pub second: u32,
+}
+
+fn one(x: i32) -> Results {
+    Results {
+        first: pattern(x),
+        second: 0,
+    }
+}
+
+fn flag(over: bool) -> Results {
+    Results {
+        first: over as u32,
+        second: 0,
+    }
+}
+
+fn two(x: i16, y: i16) -> Results {
+    Results {
+        first: pattern(x as i32),
+        second: pattern(y as i32),
+    }
+}
+
+// The value of 64 bits whose halves are given.
+fn halves(high: u32, low: u32) -> i64 {
+    signed(high) as i64 * 4294967296 + low as i64
+}
+
+// The made-up logarithm table of the list.
+fn log_table() -> [i16; 33] {
+    let mut table = [0i16; 33];
+    let mut i = 0;
+    let mut v: i32 = -9000;
+    while i < 33 {
+        table[i] = basic_op::extract_l(v);
+        v = basic_op::l_add(v, (62 * i + 38) as i32);
+        i += 1;
+    }
+    table
+}
+
+fn log(x: i32) -> Results {
+    let table = log_table();
+    let l = basic_op::base2_log(x, &table);
+    two(l.integer, l.fraction)
+}
+
+fn split(x: i32) -> Results {
+    let s = basic_op::split_high_low(x);
+    two(s.upper, s.lower)
+}
+
+// Operators 00 to 0d.
+fn basic(op: u32, a: u32, b: u32, c: u32) -> Results {
+    match op {
+        0 => one(basic_op::sat16(signed(a)) as i32),
+        1 => one(basic_op::add(word(a), word(b)) as i32),
+        2 => one(basic_op::sub(word(a), word(b)) as i32),
+        3 => one(basic_op::shl(word(a), word(b)) as i32),
+        4 => one(basic_op::mult(word(a), word(b)) as i32),
+        5 => one(basic_op::l_mult(word(a), word(b))),
+        6 => one(basic_op::l_add(signed(a), signed(b))),
+        7 => one(basic_op::l_sub(signed(a), signed(b))),
+        8 => one(basic_op::l_mac(signed(a), word(b), word(c))),
+        9 => one(basic_op::l_msu(signed(a), word(b), word(c))),
+        10 => one(basic_op::l_shl(signed(a), word(b))),
+        11 => one(basic_op::l_shr(signed(a), word(b))),
+        12 => one(basic_op::l_shr_r(signed(a), word(b))),
+        _ => one(basic_op::round(signed(a)) as i32),
+    }
+}
+
+// Operators 0e to 16.
+fn extended(op: u32, a: u32, b: u32, c: u32) -> Results {
+    match op {
+        14 => one(basic_op::extract_h(signed(a)) as i32),
+        15 => one(basic_op::extract_l(signed(a)) as i32),
+        16 => one(basic_op::l_deposit_h(word(a))),
+        17 => one(basic_op::norm_l(signed(a)) as i32),
+        18 => split(signed(a)),
+        19 => one(basic_op::join_high_low(word(a), word(b))),
+        20 => one(basic_op::multiply_split_by_16(word(a), word(b), word(c))),
+        21 => one(basic_op::multiply_32_by_16(signed(a), word(b))),
+        _ => one(basic_op::base2_power(word(a), word(b))),
+    }
+}
+
+// Operators 17 to 1f.
+fn flags_and_shifts(op: u32, a: u32, b: u32, c: u32) -> Results {
+    match op {
+        23 => flag(basic_op::l_mult_overflow(word(a), word(b))),
+        24 => flag(basic_op::l_msu_overflow(signed(a), word(b), word(c))),
+        25 => flag(basic_op::l_shl3_overflow(signed(a))),
+        26 => flag(basic_op::round_overflow(signed(a))),
+        27 => one(basic_op::sar16(word(a), b) as i32),
+        28 => one(basic_op::sar32(signed(a), b)),
+        29 => one(basic_op::interpolate_q15(word(a), word(b), word(c))),
+        30 => log(signed(a)),
+        _ => one(basic_op::sat32(halves(a, b))),
+    }
+}
+
+pub fn call(op: u32, a: u32, b: u32, c: u32) -> Results {
+    if op < 14 {
+        return basic(op, a, b, c);
+    }
+    if op < 23 {
+        return extended(op, a, b, c);
+    }
+    flags_and_shifts(op, a, b, c)
+}

@@ -1,0 +1,58 @@
+// Hexadecimal digits to numbers, and numbers of 32 bits to signed ones and back.
+ghost use Prim.Native.Nat.{_≤_};
+
+// The value of a digit 0-9 or a-f; 0 of any other byte.
+fn digit(b: u8) -> u32
+    ensures { λ r. ⌜ r ≤ 15 ⌝ }
+{
+    if b < 48 {
+        return 0;
+    }
+    if b < 58 {
+        return (b - 48) as u32;
+    }
+    if b < 97 {
+        return 0;
+    }
+    if b < 103 {
+        return (b - 87) as u32;
+    }
+    0
+}
+
+// The number of the `count` digits at `from`; bytes past the end count as 0.
+pub fn field(line: &[u8], from: usize, count: usize) -> u32 {
+    let mut v: u32 = 0;
+    let mut i = 0;
+    while i < count {
+        if from < line.len() {
+            if i < line.len() - from {
+                v = v % 268435456 * 16 + digit(line[from + i]);
+            }
+        }
+        i += 1;
+    }
+    v
+}
+
+// The number of 32 bits that x is in two's complement.
+pub fn signed(x: u32) -> i32 {
+    if x < 2147483648 {
+        x as i32
+    } else {
+        (x as i64 - 4294967296) as i32
+    }
+}
+
+// Its 16 lower bits, as a signed number.
+pub fn word(x: u32) -> i16 {
+    basic_op::extract_l(signed(x))
+}
+
+pub fn pattern(x: i32) -> u32 {
+    if x < 0 {
+        (x as i64 + 4294967296) as u32
+    } else {
+        x as u32
+    }
+}
