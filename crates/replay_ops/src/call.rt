@@ -1,5 +1,6 @@
 // One call of an operator by its number in the list.
 use crate::hex::pattern;
+use crate::hex::sign_extended;
 use crate::hex::signed;
 use crate::hex::word;
 
@@ -15,6 +16,14 @@ fn one(x: i32) -> Results {
     }
 }
 
+// A result of 16 bits, its sign carried on to 32.
+fn short(x: i16) -> Results {
+    Results {
+        first: sign_extended(x),
+        second: 0,
+    }
+}
+
 fn flag(over: bool) -> Results {
     Results {
         first: over as u32,
@@ -24,8 +33,8 @@ fn flag(over: bool) -> Results {
 
 fn two(x: i16, y: i16) -> Results {
     Results {
-        first: pattern(x as i32),
-        second: pattern(y as i32),
+        first: sign_extended(x),
+        second: sign_extended(y),
     }
 }
 
@@ -61,11 +70,11 @@ fn split(x: i32) -> Results {
 // Operators 00 to 0d.
 fn basic(op: u32, a: u32, b: u32, c: u32) -> Results {
     match op {
-        0 => one(basic_op::sat16(signed(a)) as i32),
-        1 => one(basic_op::add(word(a), word(b)) as i32),
-        2 => one(basic_op::sub(word(a), word(b)) as i32),
-        3 => one(basic_op::shl(word(a), word(b)) as i32),
-        4 => one(basic_op::mult(word(a), word(b)) as i32),
+        0 => short(basic_op::sat16(signed(a))),
+        1 => short(basic_op::add(word(a), word(b))),
+        2 => short(basic_op::sub(word(a), word(b))),
+        3 => short(basic_op::shl(word(a), word(b))),
+        4 => short(basic_op::mult(word(a), word(b))),
         5 => one(basic_op::l_mult(word(a), word(b))),
         6 => one(basic_op::l_add(signed(a), signed(b))),
         7 => one(basic_op::l_sub(signed(a), signed(b))),
@@ -74,17 +83,17 @@ fn basic(op: u32, a: u32, b: u32, c: u32) -> Results {
         10 => one(basic_op::l_shl(signed(a), word(b))),
         11 => one(basic_op::l_shr(signed(a), word(b))),
         12 => one(basic_op::l_shr_r(signed(a), word(b))),
-        _ => one(basic_op::round(signed(a)) as i32),
+        _ => short(basic_op::round(signed(a))),
     }
 }
 
 // Operators 0e to 16.
 fn extended(op: u32, a: u32, b: u32, c: u32) -> Results {
     match op {
-        14 => one(basic_op::extract_h(signed(a)) as i32),
-        15 => one(basic_op::extract_l(signed(a)) as i32),
+        14 => short(basic_op::extract_h(signed(a))),
+        15 => short(basic_op::extract_l(signed(a))),
         16 => one(basic_op::l_deposit_h(word(a))),
-        17 => one(basic_op::norm_l(signed(a)) as i32),
+        17 => short(basic_op::norm_l(signed(a))),
         18 => split(signed(a)),
         19 => one(basic_op::join_high_low(word(a), word(b))),
         20 => one(basic_op::multiply_split_by_16(word(a), word(b), word(c))),
@@ -100,7 +109,7 @@ fn flags_and_shifts(op: u32, a: u32, b: u32, c: u32) -> Results {
         24 => flag(basic_op::l_msu_overflow(signed(a), word(b), word(c))),
         25 => flag(basic_op::l_shl3_overflow(signed(a))),
         26 => flag(basic_op::round_overflow(signed(a))),
-        27 => one(basic_op::sar16(word(a), b) as i32),
+        27 => short(basic_op::sar16(word(a), b)),
         28 => one(basic_op::sar32(signed(a), b)),
         29 => one(basic_op::interpolate_q15(word(a), word(b), word(c))),
         30 => log(signed(a)),

@@ -35,13 +35,12 @@ pub fn field(line: &[u8], from: usize, count: usize) -> u32 {
     v
 }
 
-// The number of 32 bits that x is in two's complement.
+// The signed number whose 32 bits are x.
 pub fn signed(x: u32) -> i32 {
     if x < 2147483648 {
-        x as i32
-    } else {
-        (x as i64 - 4294967296) as i32
+        return x as i32;
     }
+    basic_op::l_sub(basic_op::l_sub((x - 2147483648) as i32, 2147483647), 1)
 }
 
 // Its 16 lower bits, as a signed number.
@@ -49,10 +48,15 @@ pub fn word(x: u32) -> i16 {
     basic_op::extract_l(signed(x))
 }
 
+// The 32 bits of x.
 pub fn pattern(x: i32) -> u32 {
-    if x < 0 {
-        (x as i64 + 4294967296) as u32
-    } else {
-        x as u32
-    }
+    let high = basic_op::low16(basic_op::extract_h(x));
+    let low = basic_op::low16(basic_op::extract_l(x));
+    high as u32 * 65536 + low as u32
+}
+
+// The 16 bits of x, its sign carried on to 32.
+pub fn sign_extended(x: i16) -> u32 {
+    let low = basic_op::low16(x) as u32;
+    if low < 32768 { low } else { low + 4294901760 }
 }

@@ -31,6 +31,40 @@ fn operator(line: &[u8]) -> usize {
     (hex::field(line, 0, 2) % 32) as usize
 }
 
+pub struct Tally {
+    pub calls: [u32; 32],
+    pub differ: [u32; 32],
+}
+
+// One line counted.
+fn counted(t: Tally, line: &[u8]) -> Tally {
+    let op = operator(line);
+    let mut next = t;
+    next.calls[op] = one_more(t.calls[op]);
+    if agrees(line) {
+        return next;
+    }
+    next.differ[op] = one_more(t.differ[op]);
+    next
+}
+
+// All lines counted.
+fn all_lines(text: &[u8]) -> Tally {
+    let mut t = Tally {
+        calls: [0; 32],
+        differ: [0; 32],
+    };
+    let mut rest = text.len();
+    while 48 <= rest {
+        let at = text.len() - rest;
+        let end = at + 48;
+        let next = counted(t, &text[at..end]);
+        t = next;
+        rest -= 48;
+    }
+    t
+}
+
 fn print_row(op: u64, calls: u32, differ: u32) {
     io::print_hex(STDOUT_FILENO, op, 2);
     io::write_all(STDOUT_FILENO, b" calls ");
@@ -40,25 +74,16 @@ fn print_row(op: u64, calls: u32, differ: u32) {
     io::write_all(STDOUT_FILENO, b"\n");
 }
 
-fn main() {
-    let mut text = [0u8; 524288];
-    let mut calls = [0u32; 32];
-    let mut differ = [0u32; 32];
-    let n = io::read_full(STDIN_FILENO, &mut text);
-    let mut at = 0;
-    while at + 48 <= n {
-        let end = at + 48;
-        let line = &text[at..end];
-        let op = operator(line);
-        calls[op] = one_more(calls[op]);
-        if !agrees(line) {
-            differ[op] = one_more(differ[op]);
-        }
-        at = end;
-    }
+fn print_rows(t: Tally) {
     let mut op = 0;
     while op < 32 {
-        print_row(op as u64, calls[op], differ[op]);
+        print_row(op as u64, t.calls[op], t.differ[op]);
         op += 1;
     }
+}
+
+fn main() {
+    let mut text = [0u8; 524288];
+    let n = io::read_full(STDIN_FILENO, &mut text);
+    print_rows(all_lines(&text[..n]));
 }

@@ -1,0 +1,12 @@
+-- `adaptive::PitchState::erased` meets its contract. Assumes nothing.
+use borrow.Author.Needs.{needs}
+use Rattle.adaptive.specs.Adaptive.{erased}
+use Rattle.adaptive.proofs.PitchState.erased.Statement.{statement}
+use Rattle.adaptive.proofs.PitchState.erased.Tie as tie
+
+returns : tie.Need-returns
+unfolding erased
+returns c i = record { delay = c .before .carried .ensures i; state = c .grown .ensures i }
+
+pub erased-spec : {M : Type 1} → statement M
+erased-spec = tie.close (tie.spec (λ c κs. search needs) (λ c κs. search needs) returns)

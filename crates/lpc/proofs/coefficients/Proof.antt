@@ -1,0 +1,59 @@
+-- `lpc::coefficients` meets its contract: a word at a time. Assumes nothing.
+use mir.Syntax.{w16}
+use Rattle.laws.specs.Back.{came}
+use Rattle.laws.specs.Lists.{tab}
+use Rattle.lpc.specs.Lpc.{coefficient}
+use borrow.Author.Needs.{needs}
+use Rattle.lpc.proofs.coefficients.Statement.{statement}
+use Rattle.lpc.proofs.coefficients.Tie as tie
+
+half-sum-requires : tie.Need-half-sum-requires
+half-sum-requires c κs = search needs
+
+half-sum-requires-2 : tie.Need-half-sum-requires-2
+half-sum-requires-2 c κs = search needs
+
+half-sum-requires-3 : tie.Need-half-sum-requires-3
+half-sum-requires-3 c κs = search needs
+
+half-sum-requires-4 : tie.Need-half-sum-requires-4
+half-sum-requires-4 c κs = search needs
+
+half-sum-requires-5 : tie.Need-half-sum-requires-5
+half-sum-requires-5 c κs = search needs
+
+half-difference-requires : tie.Need-half-difference-requires
+half-difference-requires c κs = search needs
+
+half-difference-requires-2 : tie.Need-half-difference-requires-2
+half-difference-requires-2 c κs = search needs
+
+half-difference-requires-3 : tie.Need-half-difference-requires-3
+half-difference-requires-3 c κs = search needs
+
+half-difference-requires-4 : tie.Need-half-difference-requires-4
+half-difference-requires-4 c κs = search needs
+
+half-difference-requires-5 : tie.Need-half-difference-requires-5
+half-difference-requires-5 c κs = search needs
+
+returns : tie.Need-returns
+unfolding coefficient tab
+returns c =
+    cc (came w16 (c .half-difference5), came w16 (c .before .half-difference4), came w16 (c .before .before .half-difference3), came w16 (c .before .before .before .half-difference2), came w16 (c .before .before .before .before .half-difference), came w16 (c .before .before .before .before .before .half-sum5), came w16 (c .before .before .before .before .before .before .half-sum4), came w16 (c .before .before .before .before .before .before .before .half-sum3), came w16 (c .before .before .before .before .before .before .before .before .half-sum2), came w16 (c .before .before .before .before .before .before .before .before .before .half-sum))
+
+pub coefficients-spec : {M : Type 1} → statement M
+coefficients-spec =
+    tie.close
+    (tie.spec
+    half-sum-requires
+    half-sum-requires-2
+    half-sum-requires-3
+    half-sum-requires-4
+    half-sum-requires-5
+    half-difference-requires
+    half-difference-requires-2
+    half-difference-requires-3
+    half-difference-requires-4
+    half-difference-requires-5
+    returns)

@@ -1,0 +1,23 @@
+-- `lpc::half_q12` meets its contract: a rounded shift and its lower 16 bits. Assumes nothing.
+use mir.Syntax.{w16, w32}
+use mir.Facts.{toZ-ofZ}
+use Rattle.laws.specs.Back.{came}
+use Rattle.lpc.specs.Lpc.{half-q12}
+use borrow.Author.Needs.{needs}
+use Rattle.lpc.proofs.half_q12.Statement.{statement}
+use Rattle.lpc.proofs.half_q12.Tie as tie
+
+l-shr-r-requires : tie.Need-l-shr-r-requires
+l-shr-r-requires c κs = search needs
+
+extract-l-requires : tie.Need-extract-l-requires
+extract-l-requires c κs = search needs
+
+returns : tie.Need-returns
+unfolding half-q12
+returns c =
+    let s = c .before .before in
+    cc (came w16 (c .extract-l), came w32 (c .before .l-shr-r), toZ-ofZ (s .fits .x))
+
+pub half-q12-spec : {M : Type 1} → statement M
+half-q12-spec = tie.close (tie.spec l-shr-r-requires extract-l-requires returns)

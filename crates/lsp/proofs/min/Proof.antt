@@ -1,0 +1,17 @@
+-- `lsp::min` meets its contract: one branch for each outcome of its test.
+use mir.Facts.{toZ-ofZ}
+use Rattle.lsp.specs.Lsp.{min}
+use borrow.Author.Needs.{needs}
+use Rattle.lsp.proofs.min.Statement.{statement}
+use Rattle.lsp.proofs.min.Tie as tie
+
+returns : tie.Need-returns
+unfolding min
+returns c = rw (rw (toZ-ofZ (c .before .fits .a), toZ-ofZ (c .before .fits .b)) at (c .if1 .taken)) (search needs)
+
+returns-2 : tie.Need-returns-2
+unfolding min
+returns-2 c = rw (rw (toZ-ofZ (c .before .fits .a), toZ-ofZ (c .before .fits .b)) at (c .if1 .left)) (search needs)
+
+pub min-spec : {M : Type 1} → statement M
+min-spec = tie.close (tie.spec returns returns-2)

@@ -1,0 +1,2 @@
+-- The definitions that the contracts of `plc` cite.
+pub mod Kinds

@@ -1,0 +1,66 @@
+-- `replay_ops::call::log_table` is safe: 33 entries are set.
+use Prim.Native.Nat.{_-_, _≤_}
+use borrow.Author.Needs.{needs}
+use Rattle.replay_ops.proofs.call.log_table.Statement.{statement}
+use Rattle.replay_ops.proofs.call.log_table.Tie as tie
+
+abbrev Inv-loop : tie.InvT-loop
+Inv-loop table₀ i₀ v₀ table i v = i ≤ 33
+
+abbrev μ-loop : tie.MeasureT-loop
+μ-loop table₀ i₀ v₀ table i v = 33 - i
+
+loop-holds : tie.Need-loop-holds Inv-loop μ-loop
+loop-holds c = search needs
+
+extract-l-requires : tie.Need-extract-l-requires Inv-loop μ-loop
+extract-l-requires c κs = search needs
+
+mul-table : tie.Need-mul-table Inv-loop μ-loop
+mul-table c = search needs
+
+array-set-from-table : tie.Need-array-set-from-table Inv-loop μ-loop
+array-set-from-table c = search needs
+
+mul-l-add : tie.Need-mul-l-add Inv-loop μ-loop
+mul-l-add c = search needs
+
+add-l-add : tie.Need-add-l-add Inv-loop μ-loop
+add-l-add c = search needs
+
+cast-l-add : tie.Need-cast-l-add Inv-loop μ-loop
+cast-l-add c = search needs
+
+l-add-requires : tie.Need-l-add-requires Inv-loop μ-loop
+l-add-requires c κs = search needs
+
+add-i : tie.Need-add-i Inv-loop μ-loop
+add-i c = search needs
+
+loop-less : tie.Need-loop-less Inv-loop μ-loop
+loop-less c = search needs
+
+loop-again : tie.Need-loop-again Inv-loop μ-loop
+loop-again c = search needs
+
+returns : tie.Need-returns Inv-loop μ-loop
+returns c = search needs
+
+pub log-table-spec : {M : Type 1} → statement M
+log-table-spec =
+    tie.close
+    (tie.spec
+    Inv-loop
+    μ-loop
+    loop-holds
+    extract-l-requires
+    mul-table
+    array-set-from-table
+    mul-l-add
+    add-l-add
+    cast-l-add
+    l-add-requires
+    add-i
+    loop-less
+    loop-again
+    returns)

@@ -1,0 +1,3 @@
+-- The definitions that the contracts of `synth` cite, and laws of them.
+pub mod Synth
+pub mod Laws
