@@ -1,6 +1,6 @@
 -- Adaptive codebook of ITU-T G.729: parity of the pitch delay (clause 3.7.2), decoding of the delays (clauses 4.1.2 and 4.1.3),
 -- the delay of an erased subframe (clause 4.4.4) and the adaptive-codebook vector (clause 3.7.1, equation (40)).
-use Prim.Native.Nat.{ℕ, zero, _+_, _-_, _*_, _/_, _%_, _^_, min, max}
+use Prim.Native.Nat.{ℕ, _+_, _-_, _*_, _/_, _%_, _^_, min, max}
 use mathlib.Core.Bool.{Bool, cond}
 use mathlib.Core.List.{List}
 use lib.Dec.{eqb, ltb}
@@ -26,10 +26,6 @@ lesser a b = cond (ltZ b a) b a
 unfoldable pub parity-ok : ℕ → ℕ → Bool
 parity-ok p1 p0 = eqb (steps (λ k ones. ones + p1 / 2 ^ (k + 2) % 2) 6 1 % 2) (p0 % 2)
 
--- the delay n + (rest - 1) / 3
-abbrev pub in-thirds : ℕ → ℕ → Delay
-in-thirds n rest = record { integer = pos n; fraction = pos rest -ℤ pos 1 }
-
 -- Clause 4.1.3: T1 from the eight low bits of P1, an integer and thirds.
 unfoldable pub decode-t1 : ℕ → Delay
 decode-t1 p1 =
@@ -39,7 +35,8 @@ decode-t1 p1 =
     (record { integer = pos whole; fraction = pos p -ℤ pos (3 * whole) +ℤ pos 58 })
     (record { integer = pos (p - 112); fraction = pos 0 })
 
--- Clause 4.1.3: the least delay of the second subframe: int(T1) - 5, at least 20, and at most 134, so that nine more is at most 143.
+-- Clause 4.1.3: the least delay of the second subframe, int(T1) - 5, but at least 20, and at most 134, so that nine more is at most 143.
+-- Any T1 is taken; a negative one gives 20.
 abbrev pub t-min : ℤ → ℕ
 t-min t1 = min (max (nat t1 - 5) 20) 134
 
@@ -78,10 +75,11 @@ erased old = record { delay = carried old; state = grown old }
 
 -- ---- equation (40), at the delay T = t0 + frac / 3 = k - phase / 3
 
+-- phase: 1 where frac is negative, 2 where it is positive
 unfoldable pub phase : ℤ → ℕ
 phase frac = cond (ltZ frac (pos 0)) 1 (cond (ltZ (pos 0) frac) 2 0)
 
--- limited to 10 to 144, which alters no delay of an accepted state
+-- limited to 10 to 144, which alters no delay of an accepted state (`limit-t1`, `limit-t2`, `limit-carried` of Laws)
 abbrev pub limited : ℕ → ℕ
 limited k = min (max k 10) 144
 
@@ -94,8 +92,8 @@ unfoldable pub interpolate : List ℤ → ℕ → ℕ → List ℤ → ℤ
 interpolate b30 phase x u =
     round (steps (λ i s. l-mac (l-mac s (at u (x - i)) (at b30 (phase + 3 * i))) (at u (x + 1 + i)) (at b30 (3 - phase + 3 * i))) 10 (pos 0))
 
--- Equation (40): the 40 words of the subframe, from 154 on or, in the second subframe, from 194 on. Each reads those before it in
--- the same buffer, so that for delays below 40 the first words of the vector feed its later ones.
+-- Equation (40): the 40 words of the subframe, from 154 on or, in the second subframe, from 194 on, in a buffer of 234. Each reads the
+-- buffer as the words before it left it, so that at delays below 40 the first words of the vector feed its later ones.
 unfoldable pub adaptive-vector : List ℤ → Bool → ℤ → ℤ → List ℤ → List ℤ
 adaptive-vector b30 second t0 frac exc =
     let from : ℕ = cond second 194 154 in

@@ -1,5 +1,5 @@
--- Laws of the delays: their fractions as remainders, and their ranges. Assumes nothing.
-use Prim.Native.Nat.{ℕ, zero, suc, _+_, _-_, _*_, _/_, _%_, _≤_, _<_, min, max}
+-- Laws of the delays and of the places of equation (40): fractions as remainders, ranges, and the limit that alters no delay. Assumes nothing.
+use Prim.Native.Nat.{ℕ, zero, suc, _+_, _-_, _*_, _/_, _%_, _≤_, _<_}
 use mathlib.Core.Path.{_≡_, refl, sym, ap, _∙_, subst}
 use mathlib.Core.List.{List}
 use mathlib.Core.Bool.{Bool, true, false, cond, _&&_}
@@ -10,13 +10,13 @@ use lib.IntN.{ℤ, pos, negsuc, natAbs, _+ℤ_, _-ℤ_, _*ℤ_}
 use lib.Signed.{ltZ, leZ}
 use borrow.Author.Tests.{lt-ltb, le-ltb, ltb-true, ltb-false, eqb-true, eqb-false}
 use mir.Syntax.{w16}
-use mir.Val.{SFits, hbits}
+use mir.Val.{SFits}
 use mir.Facts.{and-yes, yes-and, leb-yes, yes-leb, eqb-yes, sfits-lit}
 use Rattle.laws.specs.Loops.{run}
 use Rattle.adaptive.specs.declared.Delay.{Delay}
 use Rattle.adaptive.specs.declared.PitchState.{PitchState}
 use Rattle.adaptive.specs.declared.Tracked.{Tracked}
-use Rattle.adaptive.specs.Adaptive.{in-thirds, decode-t1, decode-t2, t-min, nat, lesser, grown, first, second, erased, phase, lag, interpolate, adaptive-vector}
+use Rattle.adaptive.specs.Adaptive.{decode-t1, decode-t2, t-min, carried, limited, nat, lesser, grown, first, second, erased, phase, lag, interpolate, adaptive-vector}
 
 -- ---- a test of every number below n, computed
 
@@ -36,6 +36,10 @@ every-at (suc n) f t k h =
     every-by f n k (eqb k n) refl (p .0) (every-at n f (p .1) k) h
 
 -- ---- the fraction is a remainder less 1
+
+-- the delay n + (rest - 1) / 3
+abbrev pub in-thirds : ℕ → ℕ → Delay
+in-thirds n rest = record { integer = pos n; fraction = pos rest -ℤ pos 1 }
 
 unfoldable pub sameZ : ℤ → ℤ → Bool
 sameZ (pos a) (pos b) = eqb a b
@@ -208,3 +212,45 @@ first-range old p1 false h = h
 pub second-range : (p2 : ℕ) (t1 : ℤ) → T (between (pos 19) (pos 144) (second p2 t1 .state .old))
 unfolding second
 second-range p2 t1 = t2-integer-range p2 t1
+
+-- ---- the limit of equation (40) alters no delay
+
+-- k of T = k - phase / 3, with no limit
+unfoldable pub k-of : Delay → ℕ
+k-of d = cond (ltZ (pos 0) (d .fraction)) (nat (d .integer) + 1) (nat (d .integer))
+
+abbrev free : ℕ → Bool
+free k = between (pos 10) (pos 144) (pos k)
+
+in-limit : (k : ℕ) → T (free k) → limited k ≡ k
+in-limit k t =
+    let p = and-yes (leb 10 k) (leb k 144) t in
+    let l : 10 ≤ k = leb-yes (p .0) in
+    let h : k ≤ 144 = leb-yes (p .1) in
+    omega arith
+
+pub limit-t1 : (p1 : ℕ) → lag (decode-t1 p1 .integer) (decode-t1 p1 .fraction) ≡ k-of (decode-t1 p1)
+unfolding every decode-t1 k-of lag nat
+limit-t1 p1 = in-limit (k-of (decode-t1 p1)) (rw low8 at (every-at 256 (λ p. free (k-of (decode-t1 p))) tt (p1 % 256) (mod-lt p1 (lit< tt))))
+
+-- of a quotient q, one more where the fraction is positive: at most 11, so that with the least delay it is at most 144
+most : (p : ℕ) → p < 32 → cond (ltZ (pos 0) (pos p -ℤ pos 2 -ℤ (pos ((p + 2) / 3) -ℤ pos 1) *ℤ pos 3)) ((p + 2) / 3 + 1) ((p + 2) / 3) ≤ 11
+unfolding every
+most p h = leb-yes (every-at 32 (λ n. leb (cond (ltZ (pos 0) (pos n -ℤ pos 2 -ℤ (pos ((n + 2) / 3) -ℤ pos 1) *ℤ pos 3)) ((n + 2) / 3 + 1) ((n + 2) / 3)) 11) tt p h)
+
+above : (b : Bool) (q t : ℕ) → 20 ≤ t → t ≤ 134 → cond b (q + 1) q ≤ 11 → T (free (cond b (q + t - 1 + 1) (q + t - 1)))
+above true q t l h m = between-pos 10 144 (q + t - 1 + 1) (omega arith) (omega arith)
+above false q t l h m = between-pos 10 144 (q + t - 1) (omega arith) (omega arith)
+
+pub limit-t2 : (p2 : ℕ) (t1 : ℤ) → lag (decode-t2 p2 t1 .integer) (decode-t2 p2 t1 .fraction) ≡ k-of (decode-t2 p2 t1)
+unfolding decode-t2 k-of lag nat
+limit-t2 p2 t1 = in-limit (k-of (decode-t2 p2 t1)) (above (ltZ (pos 0) (decode-t2 p2 t1 .fraction)) ((p2 % 32 + 2) / 3) (t-min t1) (omega arith) (omega arith) (most (p2 % 32) (mod-lt p2 (lit< tt))))
+
+pub limit-carried : (old : ℤ) → T (between (pos 19) (pos 144) old) → lag old (pos 0) ≡ k-of (carried old)
+unfolding k-of lag nat
+limit-carried (pos n) t =
+    let p = and-yes (leb 19 n) (leb n 144) t in
+    let l : 19 ≤ n = leb-yes (p .0) in
+    let h : n ≤ 144 = leb-yes (p .1) in
+    omega arith
+limit-carried (negsuc n) t = absurd t

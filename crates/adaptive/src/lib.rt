@@ -2,9 +2,9 @@
 // subframe (clause 4.4.4) and the adaptive-codebook vector (clause 3.7.1, equation (40)).
 ghost use mathlib.Core.Path.{_≡_};
 ghost use Prim.Native.Nat.{_+_, _-_, _/_, _≤_, _<_};
-ghost use lib.IntN.{pos, _+ℤ_, _-ℤ_};
 ghost use Rattle.laws.specs.Loops.{run};
-ghost use Rattle.adaptive.specs.Adaptive.{parity-ok, decode-t1, decode-t2, in-thirds, nat, t-min, track, carried, grown, first, second, erased, phase, limited, lag, interpolate, adaptive-vector};
+ghost use Rattle.adaptive.specs.Adaptive.{parity-ok, decode-t1, decode-t2, nat, t-min, track, carried, grown, first, second, erased, phase, limited, lag, interpolate, adaptive-vector};
+ghost use Rattle.adaptive.specs.Laws.{in-thirds};
 
 // A pitch delay: an integer and thirds.
 pub struct Delay {
@@ -30,6 +30,7 @@ pub fn parity_ok(p1: u16, p0: u16) -> bool
     (1 + p1 / 4 + p1 / 8 + p1 / 16 + p1 / 32 + p1 / 64 + p1 / 128) % 2 == p0 % 2
 }
 
+// A third, rounded down.
 fn third(n: u16) -> u16
     ensures { λ r. ⌜ r ≡ n / 3 ⌝ }
 {
@@ -149,6 +150,15 @@ impl PitchState {
         let state = self.grown();
         Tracked { delay, state }
     }
+}
+
+// Clause 4.4.4 on a record that the caller lends.
+pub fn erased_lent(s: &mut PitchState) -> Delay
+    ensures { λ r. ⌜ (r ≡ erased (now (s .entry) .old) .delay) × (now (s .exit) ≡ erased (now (s .entry) .old) .state) ⌝ }
+{
+    let next = (*s).erased();
+    *s = next.state;
+    next.delay
 }
 
 // The phase of equation (40) for a fraction in thirds.

@@ -1,5 +1,5 @@
 -- LSPs to the coefficients of the LP filter, G.729 clause 3.2.6: LSPs in Q15, the polynomials F1 and F2 in Q24, the filter in Q12.
--- The clause is on real numbers and leaves the rounding open: the operators and their order are the Rust's. Each saturates, so the order shows.
+-- The clause is on real numbers and leaves the rounding open: the operators and their order are the Rust's. Sums saturate, so the order shows.
 use Prim.Native.Nat.{ℕ, _+_, _-_, _*_}
 use mathlib.Core.Bool.{cond}
 use mathlib.Core.List.{List, [], _∷_}
@@ -26,7 +26,7 @@ top previous q older = l-sub (l-shl older (pos 1)) (l-shl (multiply-32-by-16 pre
 unfoldable pub older : List ℤ → ℕ → ℤ
 older f j = cond (ltb j 2) (pos 0) (at f (j - 2))
 
--- one stage of the recursion: f times 1 - 2 q z^-1 + z^-2, of which the coefficients 0 to `degree` are kept; f has those up to `degree` - 1
+-- one stage of the clause's recursion: f, which has the coefficients 0 to `degree` - 1, times 1 - 2 q z^-1 + z^-2, and of that 0 to `degree`
 unfoldable pub next-stage : List ℤ → ℕ → ℤ → List ℤ
 next-stage f degree q =
     tab (degree + 1) (λ j.
@@ -34,7 +34,7 @@ next-stage f degree q =
     (cond (ltb j degree) (step (at f (j - 1)) q (at f j) (older f j))
     (top (at f (j - 1)) q (older f j))))
 
--- the coefficients 0 to 5 of F1 or of F2, from the five LSPs that are its roots: f(0) = 1, and a stage for each LSP
+-- the coefficients 0 to 5 of F1 or of F2 from its five LSPs: 1, and a stage for each LSP
 unfoldable pub polynomial : List ℤ → List ℤ
 polynomial roots = steps (λ k f. next-stage f (k + 1) (at roots k)) 5 (unit-q24 ∷ [])
 
@@ -45,17 +45,17 @@ f1-prime f1 i = l-add (at f1 i) (at f1 (i - 1))
 unfoldable pub f2-prime : List ℤ → ℕ → ℤ
 f2-prime f2 i = l-sub (at f2 i) (at f2 (i - 1))
 
--- half of a sum in Q24, in Q12: rounded, and what exceeds 16 bits wraps
+-- half of x, from Q24 to Q12: rounded, and what exceeds 16 bits wraps
 unfoldable pub half-q12 : ℤ → ℤ
 half-q12 x = extract-l (l-shr-r x (pos 13))
 
--- equation (26), and a(0) = 1
+-- equation (26), i from 1 to 10; a(0) is 1.0
 unfoldable pub coefficient : List ℤ → List ℤ → ℕ → ℤ
 coefficient f1 f2 i =
     cond (eqb i 0) (pos 4096)
     (cond (ltb i 6) (half-q12 (l-add (f1-prime f1 i) (f2-prime f2 i)))
     (half-q12 (l-sub (f1-prime f1 (11 - i)) (f2-prime f2 (11 - i)))))
 
--- a(0) to a(10) from the LSPs q(1) to q(10), of which q(1), q(3), .. q(9) give F1 and q(2), q(4), .. q(10) give F2
+-- a(0) to a(10) from the ten LSPs: the first, third, .. give F1, and the second, fourth, .. give F2
 unfoldable pub lsp-to-lp : List ℤ → List ℤ
 lsp-to-lp q = tab 11 (coefficient (polynomial (tab 5 (λ k. at q (2 * k)))) (polynomial (tab 5 (λ k. at q (2 * k + 1)))))

@@ -1,7 +1,8 @@
 // LSPs to the coefficients of the LP filter: G.729 clause 3.2.6, equations (25) and (26).
+// The five stages of the recursion are written out: each is one coefficient longer than the one before.
 ghost use mathlib.Core.Path.{_≡_};
 ghost use mathlib.Core.List.{[], _∷_};
-ghost use Prim.Native.Nat.{_<_, _≤_};
+ghost use Prim.Native.Nat.{_<_};
 ghost use Rattle.laws.specs.Lists.{tab};
 ghost use Rattle.basic_op.specs.Ops.{l-add, l-sub};
 ghost use Rattle.lpc.specs.Lpc.{step, top, polynomial, f1-prime, f2-prime, half-q12, coefficient, lsp-to-lp};
@@ -12,7 +13,7 @@ use basic_op::l_shr_r;
 use basic_op::l_sub;
 use basic_op::multiply_32_by_16;
 
-// A coefficient of the next stage between the first and the highest.
+// A coefficient of a stage between the first and the highest: f(j) - 2 q f(j - 1) + f(j - 2) of the stage before.
 fn step(previous: i32, q: i16, same: i32, older: i32) -> i32
     ensures { λ r. ⌜ r ≡ step previous q same older ⌝ }
 {
@@ -20,7 +21,7 @@ fn step(previous: i32, q: i16, same: i32, older: i32) -> i32
     l_add(l_sub(same, doubled), older)
 }
 
-// The highest coefficient of the next stage.
+// The highest coefficient of a stage: 2 f(j - 2) - 2 q f(j - 1).
 fn top(previous: i32, q: i16, older: i32) -> i32
     ensures { λ r. ⌜ r ≡ top previous q older ⌝ }
 {
@@ -28,7 +29,7 @@ fn top(previous: i32, q: i16, older: i32) -> i32
     l_sub(l_shl(older, 1), doubled)
 }
 
-// F1 or F2 from its five roots, a stage a paragraph.
+// F1 or F2 from its five LSPs, a stage a paragraph.
 fn polynomial(q1: i16, q2: i16, q3: i16, q4: i16, q5: i16) -> [i32; 6]
     ensures { λ r. ⌜ r ≡ polynomial (q1 ∷ q2 ∷ q3 ∷ q4 ∷ q5 ∷ []) ⌝ }
 {
@@ -70,7 +71,7 @@ fn f2_prime(f2: [i32; 6], i: usize) -> i32
     l_sub(f2[i], f2[i - 1])
 }
 
-// Half of a value in Q24, in Q12.
+// Half of x, from Q24 to Q12.
 fn half_q12(x: i32) -> i16
     ensures { λ r. ⌜ r ≡ half-q12 x ⌝ }
 {

@@ -1,6 +1,8 @@
 // Replays the Rust's answers for each basic operator. Standard input has a call a line, `OO AAAAAAAA BBBBBBBB CCCCCCCC RRRRRRRR SSSSSSSS`:
 // the operator, its arguments and its results in hexadecimal, two's complement (oracle/README.md says how the list is made).
 // It prints, for each operator, how many calls were compared and how many differ.
+ghost use Prim.Native.Nat.{_<_};
+
 mod call;
 mod hex;
 
@@ -27,7 +29,9 @@ fn agrees(line: &[u8]) -> bool {
 }
 
 // The number of the operator.
-fn operator(line: &[u8]) -> usize {
+fn operator(line: &[u8]) -> usize
+    ensures { λ r. ⌜ r < 32 ⌝ }
+{
     (hex::field(line, 0, 2) % 32) as usize
 }
 

@@ -1,5 +1,6 @@
 -- The table block: 1,880 words that the caller hands in, since G.729 neither states them nor gives a formula for them.
--- Each definition names a part by its place in the block; a word past the end is 0.
+-- Each definition names a part by its place in the block; a word past the end is 0. The comments say what G.729 holds there:
+-- nothing is assumed of the words.
 use mathlib.Core.Path.{_≡_}
 use mathlib.Core.Bool.{Bool, cond, _||_}
 use mathlib.Core.List.{List, [], _∷_}
@@ -29,11 +30,11 @@ lsp-cb2 t i = row t (1280 + 10 * i)
 abbrev pub lsp-ma : List ℤ → ℕ → List (List ℤ)
 lsp-ma t p = row t (1600 + 40 * p) ∷ row t (1610 + 40 * p) ∷ row t (1620 + 40 * p) ∷ row t (1630 + 40 * p) ∷ []
 
--- its complement, 1 less the sum of the four weights, Q15 (clause 3.2.4, equation (20))
+-- the complement of its weights, which 1 less their sum stands for, Q15 (clause 3.2.4, equation (20))
 abbrev pub lsp-ma-sum : List ℤ → ℕ → List ℤ
 lsp-ma-sum t p = row t (1680 + 10 * p)
 
--- the inverse of the complement, Q12 (clause 4.4.1)
+-- the inverse of the complement, Q12 (clause 4.4.1, equation (92))
 abbrev pub lsp-ma-sum-inv : List ℤ → ℕ → List ℤ
 lsp-ma-sum-inv t p = row t (1700 + 10 * p)
 

@@ -1,3 +1,4 @@
 -- The table block and the tables by formula, which the contracts of `tables` cite.
 pub mod Layout
 pub mod Formula
+pub mod Rules

@@ -209,7 +209,7 @@ fn place(s: Scalar) -> usize
     }
 }
 
-// A scalar of the block. (Beside the enum `Scalar` no function can be called `scalar`; the field of the block is.)
+// A scalar of the block. (Not `scalar`: a function and an enum may not differ in case alone.)
 pub fn scalars(t: &[i16], s: Scalar) -> i16
     ensures { λ r. ⌜ r ≡ scalar (now (t .entry)) s ⌝ }
 {

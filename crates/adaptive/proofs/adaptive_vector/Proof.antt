@@ -3,7 +3,7 @@ use borrow.Author.Needs.{needs}
 use mathlib.Core.Path.{_∙_, ap}
 use mathlib.Core.Bool.{true, false}
 use mir.Facts.{toZ-ofZ}
-use Rattle.adaptive.specs.Adaptive.{phase, lag}
+use Rattle.adaptive.specs.Adaptive.{phase}
 use Rattle.adaptive.specs.Laws.{places, vector-is}
 use Rattle.adaptive.proofs.adaptive_vector.Statement.{statement}
 use Rattle.adaptive.proofs.adaptive_vector.Tie as tie

@@ -24,11 +24,13 @@ abbrev μ-loop : tie.MeasureT-loop
 
 loop-again : tie.Need-loop-again Inv-loop μ-loop
 loop-again c =
-    let m = c .before .before .before in
-    (search needs, steps-turn _ _ _ _ _ (m .before .before .before .before .loop .inv .1)
-    (via3 w16 w16 w32 l-mac _ _ _ _ (c .l-mac2 .result)
-    (via2 w16 w16 w32 (l-mac _) _ _ (m .l-mac .result) (m .before .before .l-mac-arg .given) (m .before .l-mac-arg2 .given) (m .l-mac .ok) (m .l-mac .ensures))
-    (c .before .before .l-mac-arg3 .given) (c .before .l-mac-arg4 .given) (c .l-mac2 .ok) (c .l-mac2 .ensures)))
+    let m = c .before .before .before in (
+      search needs,
+      steps-turn _ _ _ _ _ (m .before .before .before .before .loop .inv .1)
+          (via3 w16 w16 w32 l-mac _ _ _ _ (c .l-mac2 .result)
+          (via2 w16 w16 w32 (l-mac _) _ _ (m .l-mac .result) (m .before .before .l-mac-arg .given) (m .before .l-mac-arg2 .given) (m .l-mac .ok) (m .l-mac .ensures))
+          (c .before .before .l-mac-arg3 .given) (c .before .l-mac-arg4 .given) (c .l-mac2 .ok) (c .l-mac2 .ensures)),
+    )
 
 returns : tie.Need-returns Inv-loop μ-loop
 unfolding interpolate

@@ -1,4 +1,5 @@
 -- `lpc::top` meets its contract: four operators in a row. Assumes nothing.
+use mathlib.Core.Path.{_∙_}
 use mir.Syntax.{w32}
 use mir.Facts.{toZ-ofZ}
 use Rattle.laws.specs.Back.{came}
@@ -22,8 +23,20 @@ l-sub-requires c κs = search needs
 returns : tie.Need-returns
 unfolding top
 returns c =
-    let s = c .before .before .before .before in
-    cc (came w32 (c .l-sub), came w32 (c .before .l-shl2), came w32 (c .before .before .l-shl), came w32 (c .before .before .before .multiply-32-by-16), toZ-ofZ (s .fits .previous), toZ-ofZ (s .fits .q), toZ-ofZ (s .fits .older))
+    let m = c .before .before .before in
+    let s = m .before in
+    came w32 (c .l-sub) ∙ c .l-sub .ensures
+    ∙ rw (
+      came w32 (c .before .l-shl2),
+      c .before .l-shl2 .ensures,
+      came w32 (c .before .before .l-shl),
+      c .before .before .l-shl .ensures,
+      came w32 (m .multiply-32-by-16),
+      m .multiply-32-by-16 .ensures,
+      toZ-ofZ (s .fits .previous),
+      toZ-ofZ (s .fits .q),
+      toZ-ofZ (s .fits .older),
+    )
 
 pub top-spec : {M : Type 1} → statement M
 top-spec =

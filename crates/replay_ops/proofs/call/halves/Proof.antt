@@ -3,6 +3,7 @@ use native.Mathlib.Omega.{arith}
 use lib.Dec.{lit<, lit≤}
 use borrow.Author.Needs.{needs}
 use mir.Syntax.{w32, w64}
+use mir.Val.{toZ, ofZ}
 use mir.ValLaws.{toZ-pos}
 use mir.Facts.{toZ-ofZ, sfits-widen}
 use Rattle.laws.specs.Range.{fits-scale}
@@ -26,7 +27,7 @@ cast-result-2 c = search needs
 add-result : tie.Need-add-result
 add-result c =
     rw (toZ-ofZ (mul-result c), toZ-ofZ (cast-result c), toZ-pos w64 (c .before .args .low) (omega arith))
-    (record { sfits = halves-fit _ (c .before .args .low) (keep w32 tt (fits-came w32 (c .signed)) .sfits) (omega arith) })
+    (record { sfits = halves-fit (toZ w32 (ofZ w32 (c .signed .result))) (c .before .args .low) (keep w32 tt (fits-came w32 (c .signed)) .sfits) (omega arith) })
 
 returns : tie.Need-returns
 returns c = search needs
