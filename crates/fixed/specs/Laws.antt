@@ -1,5 +1,5 @@
 -- What the proofs of `fixed` use of its definitions. Assumes nothing.
-use Prim.Native.Nat.{ℕ, zero, suc, _+_, _-_, _*_, _/_, _%_, _^_, _≤_, _<_}
+use Prim.Native.Nat.{ℕ, zero, suc, _+_, _-_, _*_, _/_, _%_, _<_}
 use mathlib.Core.Path.{_≡_, refl, ap, _∙_, subst}
 use mathlib.Core.Bool.{Bool, true, false}
 use mathlib.Core.List.{List}
@@ -8,7 +8,7 @@ use native.Mathlib.Nat.{lt-of-le-of-lt, lt-of-lt-of-le}
 use lib.Dec.{T, lit<, lit≤}
 use lib.IntN.{ℤ, pos, negsuc, natAbs, _+ℤ_, _*ℤ_}
 use lib.ListN.{set, replicate}
-use lib.Signed.{ltZ, mag, nonNeg}
+use lib.Signed.{ltZ, nonNeg}
 use borrow.Author.Tests.{ltb-true}
 use mir.Syntax.{w16, w32}
 use mir.Val.{SFits}
@@ -46,11 +46,12 @@ pub codevector-is : {p q : ℤ} (index sign : ℕ) → q ≡ p → steps (λ k l
 unfolding codevector
 codevector-is index sign e = rw e
 
+-- the word that `echo` writes at place t0 + k
 abbrev pub echo : ℕ → ℤ → ℕ → List ℤ → ℤ
 echo t0 b k c = add (at c (t0 + k)) (mult (at c k) b)
 
 pub echo-end : {b y : ℤ} (t0 n : ℕ) (code out : List ℤ) → y ≡ b → n ≡ 40 - t0 → out ≡ run (echo t0 y) t0 n code → out ≡ run (echo t0 b) t0 (40 - t0) code
-echo-end {b} t0 n code out e h g = run-end (echo t0 _) t0 n (40 - t0) code out g h ∙ ap (λ (x : ℤ). run (echo t0 x) t0 (40 - t0) code) e
+echo-end t0 n code out e h g = run-end (echo t0 _) t0 n (40 - t0) code out g h ∙ ap (λ (x : ℤ). run (echo t0 x) t0 (40 - t0) code) e
 
 -- ---- `sharpen`, by the code's tests on y, which is t0 read back
 

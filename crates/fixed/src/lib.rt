@@ -1,7 +1,7 @@
 // The fixed codebook of G.729: the pulses of clause 3.8 and 4.1.4, pitch sharpening, and the random indices of an erased frame
 // (clause 4.4.4). Each contract is an equation with a definition of specs/Fixed.antt.
 ghost use mathlib.Core.Path.{_≡_};
-ghost use Prim.Native.Nat.{ℕ, _+_, _-_, _≤_, _<_};
+ghost use Prim.Native.Nat.{_+_, _-_, _≤_, _<_};
 ghost use Rattle.laws.specs.Lists.{at};
 ghost use Rattle.laws.specs.Loops.{run};
 ghost use Rattle.basic_op.specs.Ops.{add, mult};

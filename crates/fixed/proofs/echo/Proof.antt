@@ -21,15 +21,18 @@ abbrev μ-loop : tie.MeasureT-loop
 μ-loop t0 b out₀ n₀ count out n = 40 - n
 
 loop-again : tie.Need-loop-again Inv-loop μ-loop
-loop-again c = (
-  search needs,
-  (
-    search needs,
-    write _ _ _ _ _ _ (c .before .before .before .before .before .loop .inv .1 .1)
-        (came w16 (c .add) ∙ c .add .ensures
-        ∙ rw (via w16 _ (c .before .before .before .add-arg .given), came w16 (c .before .mult), c .before .mult .ensures, via w16 _ (c .before .before .mult-arg .given))),
-  ),
-)
+loop-again c =
+    let m = c .before in
+    let l = m .before .before .before .before in
+    let out = l .loop .out in (
+      search needs,
+      (
+        search needs,
+        write _ _ _ _ _ _ (l .loop .inv .1 .1)
+            (came w16 (c .add) ∙ c .add .ensures
+            ∙ rw (via w16 (at out (l .before .args .t0 + l .loop .n)) (m .before .before .add-arg .given), came w16 (m .mult) ∙ m .mult .ensures, via w16 (at out (l .loop .n)) (m .before .mult-arg .given))),
+      ),
+    )
 
 returns : tie.Need-returns Inv-loop μ-loop
 returns c = echo-end _ (c .before .loop .n) _ _ (toZ-ofZ (c .before .before .fits .b)) (omega arith) (c .before .loop .inv .1 .1)
