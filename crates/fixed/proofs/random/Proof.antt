@@ -1,4 +1,5 @@
 -- `fixed::random` meets its contract. Assumes nothing.
+use mathlib.Core.Path.{_∙_}
 use borrow.Author.Needs.{needs}
 use lib.Dec.{lit<}
 use mir.Syntax.{w16, w32}
@@ -22,7 +23,7 @@ returns : tie.Need-returns
 unfolding random
 returns c =
     let s = c .before in
-    cc (came w16 (c .extract-l), toZ-ofZ (s .fits .seed), toZ-ofZ (cast-extract-l s), toZ-ofZ (mul-extract-l s), toZ-ofZ (add-extract-l s))
+    rw (came w16 (c .extract-l) ∙ c .extract-l .ensures, toZ-ofZ (add-extract-l s), toZ-ofZ (mul-extract-l s), toZ-ofZ (cast-extract-l s), toZ-ofZ (s .fits .seed))
 
 pub random-spec : {M : Type 1} → statement M
 random-spec =
