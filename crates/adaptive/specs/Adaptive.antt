@@ -8,7 +8,7 @@ use lib.IntN.{ℤ, pos, negsuc, _+ℤ_, _-ℤ_, _*ℤ_}
 use lib.Signed.{ltZ}
 use Rattle.laws.specs.Lists.{at}
 use Rattle.laws.specs.Loops.{steps, run}
-use Rattle.basic_op.specs.Ops.{l-mac, round}
+use Rattle.basic_op.specs.Ops.{l-mac, round, lesser}
 use Rattle.adaptive.specs.declared.Delay.{Delay}
 use Rattle.adaptive.specs.declared.PitchState.{PitchState}
 use Rattle.adaptive.specs.declared.Tracked.{Tracked}
@@ -17,9 +17,6 @@ use Rattle.adaptive.specs.declared.Tracked.{Tracked}
 unfoldable pub nat : ℤ → ℕ
 nat (pos n) = n
 nat (negsuc n) = 0
-
-unfoldable pub lesser : ℤ → ℤ → ℤ
-lesser a b = cond (ltZ b a) b a
 
 -- Clause 3.7.2: the ones among bits 2 to 7 of P1 (the six most significant of its eight), and one more, are as many as P0, modulo 2.
 -- Only bit 0 of P0 is read.

@@ -16,7 +16,8 @@ use Rattle.laws.specs.Loops.{run}
 use Rattle.adaptive.specs.declared.Delay.{Delay}
 use Rattle.adaptive.specs.declared.PitchState.{PitchState}
 use Rattle.adaptive.specs.declared.Tracked.{Tracked}
-use Rattle.adaptive.specs.Adaptive.{decode-t1, decode-t2, t-min, carried, limited, nat, lesser, grown, first, second, erased, phase, lag, interpolate, adaptive-vector}
+use Rattle.basic_op.specs.Ops.{lesser}
+use Rattle.adaptive.specs.Adaptive.{decode-t1, decode-t2, t-min, carried, limited, nat, grown, first, second, erased, phase, lag, interpolate, adaptive-vector}
 
 -- ---- a test of every number below n, computed
 

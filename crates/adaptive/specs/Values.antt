@@ -6,7 +6,8 @@ use Rattle.laws.specs.Loops.{steps}
 use Rattle.adaptive.specs.declared.Delay.{Delay}
 use Rattle.adaptive.specs.declared.PitchState.{PitchState}
 use Rattle.adaptive.specs.declared.Tracked.{Tracked}
-use Rattle.adaptive.specs.Adaptive.{nat, parity-ok, decode-t1, decode-t2, lesser, grown, erased}
+use Rattle.basic_op.specs.Ops.{lesser}
+use Rattle.adaptive.specs.Adaptive.{nat, parity-ok, decode-t1, decode-t2, grown, erased}
 
 pub p1-0 : decode-t1 0 ≡ record { integer = pos 19; fraction = pos 1 }
 unfolding decode-t1

@@ -1,6 +1,6 @@
 -- The extended operators that G.729 Table 15 names (oper_32b), on a 32-bit value split into its upper 16 bits and the 15 bits below them,
--- and the base-2 logarithm and power of clause 3.9.1. The Recommendation's text leaves the rounding of these open: the steps are the Rust's,
--- which are those of the reference's L_Extract, L_Comp, Mpy_32_16, Log2 and Pow2. `Meaning` says what a split is.
+-- and the base-2 logarithm and power of clause 3.9.1 (L_Extract, L_Comp, Mpy_32_16, Log2 and Pow2 in the reference code). The
+-- Recommendation's text leaves their rounding open: the steps are the Rust's, which found them by matching the reference's output.
 use Prim.Native.Nat.{ℕ, zero, suc, _+_, _-_, _*_, _/_, _%_, _^_}
 use mathlib.Core.List.{List}
 use lib.IntN.{ℤ, pos, negsuc, natAbs, _-ℤ_}
@@ -11,6 +11,7 @@ use Rattle.basic_op.specs.declared.Split.{Split}
 use Rattle.basic_op.specs.declared.Log2.{Log2}
 use Rattle.basic_op.specs.Ops.{sub, mult, l-mult, l-mac, l-msu, l-deposit-h, l-shr-r, extract-h, extract-l, low16, norm-l}
 
+-- the value is upper * 2^16 + lower * 2 and its last bit
 unfoldable pub split-high-low : ℤ → Split
 split-high-low x = record { upper = extract-h x; lower = extract-l (l-msu (shrZ x 2) (extract-h x) (pos 16384)) }
 
@@ -28,7 +29,7 @@ multiply-32-by-16 x factor = multiply-split-by-16 ((split-high-low x) .upper) ((
 unfoldable pub interpolate-q15 : ℤ → ℤ → ℤ → ℤ
 interpolate-q15 entry next weight = l-msu (l-deposit-h entry) (sub entry next) weight
 
--- the same in a table: m has the place in its bits from 25 on, 32 and more, and the weight in bits 10 to 24
+-- m is a value shifted into 2^30 .. 2^31 - 1: its bits from 25 on, less 32, are the place in the table, its bits 10 to 24 the weight
 unfoldable pub log-fraction : ℕ → List ℤ → ℤ
 log-fraction m table =
     extract-h (interpolate-q15 (at table (m / 2 ^ 25 - 32)) (at table (m / 2 ^ 25 - 31)) (pos (m / 2 ^ 10 % 2 ^ 15)))
@@ -40,7 +41,8 @@ base2-log (pos zero) table = record { integer = pos 0; fraction = pos 0 }
 base2-log (pos (suc n)) table =
     record { integer = pos 30 -ℤ norm-l (pos (suc n)); fraction = log-fraction (suc n * 2 ^ natAbs (norm-l (pos (suc n)))) table }
 
--- 2 to the power of integer + fraction, the fraction in Q15: bits 10 to 14 of it are the place in the table of 2^(i / 32), bits 0 to 9 the weight
+-- 2 to the power of integer + fraction, a whole number, rounded. The fraction is Q15: its bits 10 to 14 are the place in the table of
+-- 2^(i / 32), its bits 0 to 9 the weight. 30 - integer is saturated: a shift by more than 31 gives 0 anyway
 unfoldable pub base2-power : ℤ → ℤ → ℤ
 base2-power integer fraction =
     l-shr-r

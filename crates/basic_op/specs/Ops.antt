@@ -1,5 +1,5 @@
 -- The basic operators of ITU-T G.191 (STL manual, "BASOP: ITU-T Basic Operators"; G.729 clause 5.2, Table 11) that the voice path
--- calls, as functions on whole numbers. Each has its Rust name with - for _, and computes on numerals.
+-- calls, as functions on whole numbers. Each has its Rust name with - for _.
 -- Right shifts are floor divisions: `shrZ z m` is z / m rounded down (`floor-div` of laws.Range says so).
 use Prim.Native.Nat.{ℕ, zero, suc, _-_, _^_, _%_}
 use mathlib.Core.Bool.{Bool, cond, _||_}
@@ -89,9 +89,17 @@ rounded x k = cond (eqb k 0) x (cond (ltb 31 k) (pos 0) (shrZ (shrZ x (2 ^ (k - 
 unfoldable pub l-shr-r : ℤ → ℤ → ℤ
 l-shr-r x n = by-sign n (rounded x) (λ k. sat32 (x *ℤ pos (2 ^ k)))
 
+-- ---- the lesser and the greater of two (the Rust's `min` and `max`)
+
+unfoldable pub lesser : ℤ → ℤ → ℤ
+lesser a b = cond (ltZ b a) b a
+
+unfoldable pub greater : ℤ → ℤ → ℤ
+greater a b = cond (ltZ b a) a b
+
 -- ---- normalization
 
--- z lies in the upper half of the range of 32 bits: 2 ^ 30 ≤ z, or z < -2 ^ 30
+-- z, or its complement where it is negative, needs all 31 bits: 2 ^ 30 ≤ z, or z < -2 ^ 30 (so -2 ^ 30 is doubled once more)
 unfoldable pub normal : ℤ → Bool
 normal z = leZ (pos 1073741824) z || ltZ z (negsuc 1073741823)
 
@@ -105,7 +113,7 @@ norm-l (pos zero) = pos 0
 norm-l (pos (suc n)) = pos (doublings 31 (pos (suc n)))
 norm-l (negsuc n) = pos (doublings 31 (negsuc n))
 
--- ---- whether an operator saturates, which only synthesis asks (G.729 clause 4.1.6)
+-- ---- whether an operator saturates, which only synthesis asks
 
 -- z lies outside the range from -(n + 1) to n
 unfoldable pub overflow : ℕ → ℤ → Bool

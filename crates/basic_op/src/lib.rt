@@ -5,7 +5,7 @@ ghost use mathlib.Core.Path.{_≡_};
 ghost use Prim.Native.Nat.{_^_, _<_, _≤_};
 ghost use lib.IntN.{pos, negsuc, natAbs, _+ℤ_, _-ℤ_, _*ℤ_};
 ghost use lib.Signed.{shrZ, mag};
-ghost use Rattle.basic_op.specs.Ops.{sat16, sat32, add, sub, l-mult, l-add, l-sub, l-mac, l-msu, mult, extract-h, extract-l, round, l-deposit-h, shl, l-shl, l-shr, l-shr-r, norm-l, low16, overflow32, l-mult-overflow, l-msu-overflow, round-overflow, l-shl3-overflow};
+ghost use Rattle.basic_op.specs.Ops.{sat16, sat32, add, sub, l-mult, l-add, l-sub, l-mac, l-msu, mult, extract-h, extract-l, round, l-deposit-h, shl, l-shl, l-shr, l-shr-r, norm-l, low16, lesser, greater, overflow32, l-mult-overflow, l-msu-overflow, round-overflow, l-shl3-overflow};
 ghost use Rattle.basic_op.specs.Oper32b.{split-high-low, join-high-low, multiply-split-by-16, multiply-32-by-16, interpolate-q15, log-fraction, base2-log, base2-power};
 use tables::formula;
 
@@ -248,6 +248,22 @@ pub fn l_shr_r(x: i32, n: i16) -> i32
     }
     let half = sar32(x, k - 1);
     sar64(half as i64 + 1, 1) as i32
+}
+
+// ---- the lesser and the greater
+
+// The Rust's `min`.
+pub fn lesser(a: i16, b: i16) -> i16
+    ensures { λ r. ⌜ r ≡ lesser a b ⌝ }
+{
+    if b < a { b } else { a }
+}
+
+// The Rust's `max`.
+pub fn greater(a: i16, b: i16) -> i16
+    ensures { λ r. ⌜ r ≡ greater a b ⌝ }
+{
+    if b < a { a } else { b }
 }
 
 // ---- normalization

@@ -11,51 +11,47 @@ use Rattle.laws.specs.Loops.{steps}
 use Rattle.tables.specs.declared.Scalar.the-variants.{PitchSharpeningMax, GainPredictionLogScale, GainPredictionMeanEnergyMantissa, GainPredictionMeanEnergyMultiplier, GainPredictionDbToLog2, GainUpdateLog2ToDb, ErasurePitchGainLimit, ErasureFixedGainAttenuation}
 use Rattle.tables.specs.Layout.{gain-ga, gain-gb, map-ga, map-gb, log2, scalar}
 use Rattle.tables.specs.Formula.{gain-prediction-coefficients}
-use Rattle.basic_op.specs.Ops.{add, sub, mult, l-mult, l-add, l-mac, l-shl, l-shr, extract-h, extract-l, low16}
+use Rattle.basic_op.specs.Ops.{add, sub, mult, l-mult, l-add, l-mac, l-shl, l-shr, extract-h, extract-l, low16, lesser, greater}
 use Rattle.basic_op.specs.Oper32b.{split-high-low, join-high-low, multiply-split-by-16, base2-log, base2-power}
 use Rattle.gain.specs.declared.Predicted.{Predicted}
 use Rattle.gain.specs.declared.GainState.{GainState}
 
-unfoldable pub lesser : ℤ → ℤ → ℤ
-lesser a b = cond (ltZ b a) b a
-
-unfoldable pub greater : ℤ → ℤ → ℤ
-greater a b = cond (ltZ a b) b a
-
--- equation (47): the last pitch gain, at most the table's bound and at least 0.2 (Q14). 0.2 is applied last, so it wins over a lower bound
+-- equation (47): the last pitch gain, at most the table's bound and at least 0.2 (Q14). 0.2 is applied last, so it wins where the
+-- table's bound is below it
 unfoldable pub sharpening : List ℤ → ℤ → ℤ
 sharpening t gp = greater (lesser gp (scalar t PitchSharpeningMax)) (pos 3277)
 
 -- ---- prediction of the fixed-codebook gain, equations (66) to (71)
 
--- the sum of the squares of equation (66)
+-- the sum of the squares of equation (66), Q27
 unfoldable pub energy : List ℤ → ℤ
 energy code = steps (λ k e. l-mac e (at code k) (at code k)) 40 (pos 0)
 
--- the mean energy less that of the codevector, equation (66) in dB, through the base-2 logarithm
-unfoldable pub mean-less-energy : List ℤ → List ℤ → ℤ
-mean-less-energy t code =
+-- equation (66) in dB, through the base-2 logarithm, added to the mean energy, Q24. The scale is a table word, negative in G.729's, so that
+-- the energy is taken off; the mean-energy words there hold the 1/40 and the scaling of the sum too
+unfoldable pub mean-and-energy : List ℤ → List ℤ → ℤ
+mean-and-energy t code =
     let e = base2-log (energy code) (log2 t) in
     l-shl
     (l-mac (multiply-split-by-16 (e .integer) (e .fraction) (scalar t GainPredictionLogScale)) (scalar t GainPredictionMeanEnergyMantissa) (scalar t GainPredictionMeanEnergyMultiplier))
     (pos 10)
 
--- equation (69), added to l: the moving average over the last four errors, newest first
+-- equation (69), added to l: the moving average over the last four errors (Q10), newest first; Q24, so that its upper half is dB in Q8
 unfoldable pub prediction : ℤ → List ℤ → ℤ
 prediction l mem = steps (λ k s. l-mac s (at gain-prediction-coefficients k) (at mem k)) 4 l
 
--- the exponent of equation (71), to the base 2
+-- the exponent of equation (71), to the base 2, Q16
 unfoldable pub log2-gain : List ℤ → List ℤ → List ℤ → ℤ
-log2-gain t code mem = l-shr (l-mult (extract-h (prediction (mean-less-energy t code) mem)) (scalar t GainPredictionDbToLog2)) (pos 8)
+log2-gain t code mem = l-shr (l-mult (extract-h (prediction (mean-and-energy t code) mem)) (scalar t GainPredictionDbToLog2)) (pos 8)
 
--- equation (71): the predicted gain, as a mantissa and its Q exponent
+-- equation (71): the predicted gain is mantissa / 2^exponent
 unfoldable pub predict : List ℤ → List ℤ → List ℤ → Predicted
 predict t code mem =
     let x = split-high-low (log2-gain t code mem) in
     record { mantissa = extract-l (base2-power (pos 14) (x .lower)); exponent = sub (pos 14) (x .upper) }
 
--- ---- the two-stage codebook, equations (72) to (74). Of an index GA counts by its 3 low bits, GB by its 4; so does the map's word, which is
--- any number: its bits in two's complement
+-- ---- the two-stage codebook, equations (72) to (74). Only the 3 low bits of GA and the 4 of GB are read; so too
+-- of the map's word (& 7 and & 15 in the Rust), where -1 gives 7 and 15
 
 unfoldable pub row-ga : List ℤ → ℕ → ℕ
 row-ga t ga = low16 (map-ga t (ga % 8)) % 8
@@ -95,7 +91,7 @@ decode t ga gb code s =
 
 -- ---- an erased subframe, clauses 4.4.2 and 4.4.3
 
--- equation (94): 0.9 (Q15) times the last pitch gain, and the table's limit where that is greater
+-- equation (94): 0.9 (Q15) times the last pitch gain, but the table's limit where the product is above it
 unfoldable pub conceal-pitch-gain : List ℤ → ℤ → ℤ
 conceal-pitch-gain t gp = lesser (mult gp (pos 29491)) (scalar t ErasurePitchGainLimit)
 

@@ -3,19 +3,21 @@
 ghost use mathlib.Core.Path.{_≡_};
 ghost use Rattle.tables.specs.Layout.{log2};
 ghost use Rattle.basic_op.specs.Oper32b.{base2-log};
-ghost use Rattle.gain.specs.Gain.{lesser, greater, sharpening, energy, mean-less-energy, prediction, log2-gain, predict, row-ga, row-gb, pitch-gain, gamma, fixed-gain, gain-error, push, decode, conceal-pitch-gain, conceal-fixed-gain, error-sum, conceal-error, conceal};
+ghost use Rattle.gain.specs.Gain.{sharpening, energy, mean-and-energy, prediction, log2-gain, predict, row-ga, row-gb, pitch-gain, gamma, fixed-gain, gain-error, push, decode, conceal-pitch-gain, conceal-fixed-gain, error-sum, conceal-error, conceal};
 use basic_op::Log2;
 use basic_op::add;
 use basic_op::base2_log;
 use basic_op::base2_power;
 use basic_op::extract_h;
 use basic_op::extract_l;
+use basic_op::greater;
 use basic_op::join_high_low;
 use basic_op::l_add;
 use basic_op::l_mac;
 use basic_op::l_mult;
 use basic_op::l_shl;
 use basic_op::l_shr;
+use basic_op::lesser;
 use basic_op::low16;
 use basic_op::mult;
 use basic_op::multiply_split_by_16;
@@ -36,18 +38,6 @@ pub struct GainState {
     pub mem: [i16; 4],
     pub gp: i16,
     pub gc: i16,
-}
-
-fn lesser(a: i16, b: i16) -> i16
-    ensures { λ r. ⌜ r ≡ lesser a b ⌝ }
-{
-    if b < a { b } else { a }
-}
-
-fn greater(a: i16, b: i16) -> i16
-    ensures { λ r. ⌜ r ≡ greater a b ⌝ }
-{
-    if a < b { b } else { a }
 }
 
 // The factor of pitch sharpening, from the last pitch gain (equation (47)).
@@ -82,8 +72,8 @@ fn log(t: &[i16], value: i32) -> Log2
 }
 
 // The mean energy less the codevector's, in dB.
-fn mean_less_energy(t: &[i16], code: [i16; 40]) -> i32
-    ensures { λ r. ⌜ r ≡ mean-less-energy (now (t .entry)) code ⌝ }
+fn mean_and_energy(t: &[i16], code: [i16; 40]) -> i32
+    ensures { λ r. ⌜ r ≡ mean-and-energy (now (t .entry)) code ⌝ }
 {
     let e = log(t, energy(code));
     let scale = scalars(t, Scalar::GainPredictionLogScale);
@@ -111,7 +101,7 @@ fn prediction(l: i32, mem: [i16; 4]) -> i32
 fn log2_gain(t: &[i16], code: [i16; 40], mem: [i16; 4]) -> i32
     ensures { λ r. ⌜ r ≡ log2-gain (now (t .entry)) code mem ⌝ }
 {
-    let g = extract_h(prediction(mean_less_energy(t, code), mem));
+    let g = extract_h(prediction(mean_and_energy(t, code), mem));
     let factor = scalars(t, Scalar::GainPredictionDbToLog2);
     l_shr(l_mult(g, factor), 8)
 }

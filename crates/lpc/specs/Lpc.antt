@@ -18,7 +18,7 @@ unit-q24 = pos 16777216
 unfoldable pub step : ℤ → ℤ → ℤ → ℤ → ℤ
 step previous q same older = l-add (l-sub same (l-shl (multiply-32-by-16 previous q) (pos 1))) older
 
--- 2 f(j - 2) - 2 q f(j - 1), the new highest coefficient of a stage
+-- 2 f(j - 2) - 2 q f(j - 1), the new highest coefficient of a stage: F is symmetric, so its coefficient j is its coefficient j - 2
 unfoldable pub top : ℤ → ℤ → ℤ → ℤ
 top previous q older = l-sub (l-shl older (pos 1)) (l-shl (multiply-32-by-16 previous q) (pos 1))
 

@@ -12,21 +12,22 @@ use lib.Seq.{drop-cons, set-at, take-at, append-snoc, drop-append-add, drop-drop
 use Rattle.laws.specs.Lists.{at, tab, filled, length-tab}
 use Rattle.laws.specs.Loops.{steps, run}
 use Rattle.basic_op.specs.Ops.{add, sub}
-use Rattle.lsp.specs.Lsp.{row, min, max, insert, sort, keep-distance, spread-pair, order-and-bound}
+use Rattle.basic_op.specs.Ops.{lesser, greater}
+use Rattle.lsp.specs.Lsp.{row, insert, sort, keep-distance, spread-pair, order-and-bound}
 use Rattle.lsp.specs.Sorted.{AtMost, Sorted, sort-sorted, less}
 
 -- ---- insertion as the code does it: at each place the lesser stays and the greater is carried on
 
 -- what is carried past the first k words
 unfoldable pub carry : List ℤ → ℤ → ℕ → ℤ
-carry l x k = steps (λ j c. max c (at l j)) k x
+carry l x k = steps (λ j c. greater c (at l j)) k x
 
 -- x put among the first n words of l, and word n dropped
 unfoldable pub insert-at : List ℤ → ℕ → ℤ → List ℤ
-insert-at l n x = set (filled (λ j. min (carry l x j) (at l j)) n l) n (carry l x n)
+insert-at l n x = set (filled (λ j. lesser (carry l x j) (at l j)) n l) n (carry l x n)
 
 -- the loop's end
-pub insert-end : (l out : List ℤ) (n k : ℕ) (x y h : ℤ) → out ≡ filled (λ j. min (carry l y j) (at l j)) k l → h ≡ carry l y k → k ≡ n → y ≡ x → set out n h ≡ insert-at l n x
+pub insert-end : (l out : List ℤ) (n k : ℕ) (x y h : ℤ) → out ≡ filled (λ j. lesser (carry l y j) (at l j)) k l → h ≡ carry l y k → k ≡ n → y ≡ x → set out n h ≡ insert-at l n x
 unfolding insert-at
 insert-end l out n k x y h e g q z = rw (e, g, q, z)
 
@@ -45,29 +46,29 @@ unfolding steps
 steps-cons f zero s = refl
 steps-cons f (suc n) s = ap (f (suc n)) (steps-cons f n s)
 
-carry-cons : (y : ℤ) (l : List ℤ) (x : ℤ) (k : ℕ) → carry (y ∷ l) x (suc k) ≡ carry l (max x y) k
+carry-cons : (y : ℤ) (l : List ℤ) (x : ℤ) (k : ℕ) → carry (y ∷ l) x (suc k) ≡ carry l (greater x y) k
 unfolding carry
-carry-cons y l x k = steps-cons (λ j c. max c (at (y ∷ l) j)) k x
+carry-cons y l x k = steps-cons (λ j c. greater c (at (y ∷ l) j)) k x
 
 -- the same on lists
 unfoldable pass : ℤ → List ℤ → List ℤ
 pass x [] = x ∷ []
-pass x (y ∷ l) = min x y ∷ pass (max x y) l
+pass x (y ∷ l) = lesser x y ∷ pass (greater x y) l
 
-pass-tab : (l : List ℤ) (n : ℕ) (x : ℤ) → n ≤ length l → tab n (λ j. min (carry l x j) (at l j)) ++ (carry l x n ∷ []) ≡ pass x (take n l)
+pass-tab : (l : List ℤ) (n : ℕ) (x : ℤ) → n ≤ length l → tab n (λ j. lesser (carry l x j) (at l j)) ++ (carry l x n ∷ []) ≡ pass x (take n l)
 unfolding pass tab carry steps
 pass-tab l zero x h = refl
 pass-tab [] (suc n) x h = absurd (omega arith)
 pass-tab (y ∷ l) (suc n) x h =
-    ap (λ (t : List ℤ). t ++ (carry (y ∷ l) x (suc n) ∷ [])) (tab-cons n (λ j. min (carry (y ∷ l) x j) (at (y ∷ l) j)))
-    ∙ ap (λ (t : List ℤ). min x y ∷ t)
-    (ap (λ (t : List ℤ). t ++ (carry (y ∷ l) x (suc n) ∷ [])) (tab-ext n (λ j. min (carry (y ∷ l) x (suc j)) (at l j)) (λ j. min (carry l (max x y) j) (at l j)) (λ k. ap (λ (z : ℤ). min z (at l k)) (carry-cons y l x k)))
-    ∙ ap (λ (z : ℤ). tab n (λ j. min (carry l (max x y) j) (at l j)) ++ (z ∷ [])) (carry-cons y l x n)
-    ∙ pass-tab l n (max x y) (omega arith))
+    ap (λ (t : List ℤ). t ++ (carry (y ∷ l) x (suc n) ∷ [])) (tab-cons n (λ j. lesser (carry (y ∷ l) x j) (at (y ∷ l) j)))
+    ∙ ap (λ (t : List ℤ). lesser x y ∷ t)
+    (ap (λ (t : List ℤ). t ++ (carry (y ∷ l) x (suc n) ∷ [])) (tab-ext n (λ j. lesser (carry (y ∷ l) x (suc j)) (at l j)) (λ j. lesser (carry l (greater x y) j) (at l j)) (λ k. ap (λ (z : ℤ). lesser z (at l k)) (carry-cons y l x k)))
+    ∙ ap (λ (z : ℤ). tab n (λ j. lesser (carry l (greater x y) j) (at l j)) ++ (z ∷ [])) (carry-cons y l x n)
+    ∙ pass-tab l n (greater x y) (omega arith))
 
 -- what is carried on past an ordered list finds its place
 pass-most : (x : ℤ) (l : List ℤ) → AtMost x l → Sorted l → pass x l ≡ x ∷ l
-unfolding pass min max AtMost Sorted
+unfolding pass lesser greater AtMost Sorted
 pass-most x [] m s = refl
 pass-most x (y ∷ l) m s = go (ltZ y x) refl (pass-most y l (s .0) (s .1))
   where
@@ -76,7 +77,7 @@ pass-most x (y ∷ l) m s = go (ltZ y x) refl (pass-most y l (s .0) (s .1))
     go false e i = ap (λ (t : List ℤ). x ∷ t) i
 
 pass-insert : (x : ℤ) (l : List ℤ) → Sorted l → pass x l ≡ insert x l
-unfolding pass insert min max Sorted
+unfolding pass insert lesser greater Sorted
 pass-insert x [] s = refl
 pass-insert x (y ∷ l) s = go (ltZ y x) (pass-insert x l (s .1))
   where
@@ -87,8 +88,8 @@ pass-insert x (y ∷ l) s = go (ltZ y x) (pass-insert x l (s .1))
 insert-at-pass : (l : List ℤ) (n : ℕ) (x : ℤ) → n < length l → insert-at l n x ≡ pass x (take n l) ++ drop (suc n) l
 unfolding insert-at filled
 insert-at-pass l n x h =
-    rw (drop-cons l n (pos 0), set-at (tab n (λ j. min (carry l x j) (at l j))) (getD l n (pos 0)) (drop (suc n) l) (carry l x n) n (length-tab n (λ j. min (carry l x j) (at l j))))
-    (sym (append-snoc (tab n (λ j. min (carry l x j) (at l j))) (carry l x n) (drop (suc n) l)) ∙ ap (λ (t : List ℤ). t ++ drop (suc n) l) (pass-tab l n x (omega arith)))
+    rw (drop-cons l n (pos 0), set-at (tab n (λ j. lesser (carry l x j) (at l j))) (getD l n (pos 0)) (drop (suc n) l) (carry l x n) n (length-tab n (λ j. lesser (carry l x j) (at l j))))
+    (sym (append-snoc (tab n (λ j. lesser (carry l x j) (at l j))) (carry l x n) (drop (suc n) l)) ∙ ap (λ (t : List ℤ). t ++ drop (suc n) l) (pass-tab l n x (omega arith)))
 
 -- ---- a list sorted from its end: after n turns its last n words stand in order at the front
 
@@ -165,7 +166,7 @@ first-three (a ∷ (b ∷ (c ∷ l))) h = refl
 
 -- ---- order and bounds, a step at a time
 
-pub bounded : (low high distance : ℤ) (omega ordered apart : List ℤ) {m n : ℤ} → ordered ≡ sort omega → m ≡ max (at ordered 0) low
-    → apart ≡ run (λ k l. keep-distance distance (at l k) (at l (1 + k))) 1 9 (set ordered 0 m) → n ≡ min (at apart 9) high → set apart 9 n ≡ order-and-bound low high distance omega
+pub bounded : (low high distance : ℤ) (omega ordered apart : List ℤ) {m n : ℤ} → ordered ≡ sort omega → m ≡ greater (at ordered 0) low
+    → apart ≡ run (λ k l. keep-distance distance (at l k) (at l (1 + k))) 1 9 (set ordered 0 m) → n ≡ lesser (at apart 9) high → set apart 9 n ≡ order-and-bound low high distance omega
 unfolding order-and-bound
 bounded low high distance omega ordered apart a b d e = rw (e, d, b, a)

@@ -1,5 +1,6 @@
 -- The line spectral frequencies of G.729: clause 3.2.4 (codebooks, spacing, moving-average prediction, stability), 3.2.5 (interpolation),
--- 3.2.6 (cosine conversion), 4.1.1 and 4.4.1 (erased frames). Frequencies are in Q13, LSP in Q15. The memory is four rows of ten, the newest first.
+-- 3.2.6 (cosine conversion), 4.1.1 and 4.4.1 (erased frames). Frequencies are in radians, Q13, LSP
+-- in Q15. A row is the quantizer output l^ of a frame; the memory is the last four rows of ten, the newest first.
 use mathlib.Core.Bool.{cond}
 use mathlib.Core.List.{List, [], _∷_}
 use Prim.Native.Nat.{ℕ, _+_, _/_, _%_}
@@ -9,7 +10,7 @@ use lib.Dec.{ltb}
 use lib.ListN.{getD, set, take}
 use Rattle.laws.specs.Lists.{at, tab}
 use Rattle.laws.specs.Loops.{steps, run}
-use Rattle.basic_op.specs.Ops.{add, sub, mult, l-mult, l-mac, l-msu, l-shl, l-shr, extract-h, extract-l, l-deposit-h, low16}
+use Rattle.basic_op.specs.Ops.{add, sub, mult, l-mult, l-mac, l-msu, l-shl, l-shr, extract-h, extract-l, l-deposit-h, low16, lesser, greater}
 use Rattle.tables.specs.Layout.{lsp-cb1, lsp-cb2, lsp-ma, lsp-ma-sum, lsp-ma-sum-inv, scalar}
 use Rattle.tables.specs.Formula.{lsp-cosine, lsp-cosine-slope}
 use Rattle.tables.specs.declared.Scalar.the-variants.{LsfStabilityLowLimit, LsfStabilityHighLimit, LsfStabilityMinDistance}
@@ -17,13 +18,6 @@ use Rattle.tables.specs.declared.Scalar.the-variants.{LsfStabilityLowLimit, Lsf
 -- row k of a list of rows
 abbrev pub row : List (List ℤ) → ℕ → List ℤ
 row l k = getD l k []
-
--- the lesser and the greater of two words
-unfoldable pub min : ℤ → ℤ → ℤ
-min a b = cond (ltZ b a) b a
-
-unfoldable pub max : ℤ → ℤ → ℤ
-max a b = cond (ltZ b a) a b
 
 -- ---- clause 3.2.4: the codebooks
 
@@ -94,9 +88,9 @@ keep-distance distance previous next = cond (ltZ (sub next previous) distance) (
 unfoldable pub order-and-bound : ℤ → ℤ → ℤ → List ℤ → List ℤ
 order-and-bound low high distance omega =
     let ordered = sort omega in
-    let raised = set ordered 0 (max (at ordered 0) low) in
+    let raised = set ordered 0 (greater (at ordered 0) low) in
     let apart = run (λ k l. keep-distance distance (at l k) (at l (1 + k))) 1 9 raised in
-    set apart 9 (min (at apart 9) high)
+    set apart 9 (lesser (at apart 9) high)
 
 -- ---- clause 4.1.1: the frequencies of a frame
 
@@ -118,13 +112,14 @@ erased-row t predictor omega past = invert-ma-prediction omega past (lsp-ma t (p
 
 -- ---- clause 3.2.6: from frequencies to cosines
 
--- the cosine of a frequency of 1 / 64 π in Q8: a point of the table, and its slope over the lower byte. The point is the upper byte of the
+-- the cosine of a frequency in units of π / 64, Q8: a point of the table, and its slope over the lower byte. The point is the upper byte of the
 -- word's 16 bits, 63 at most, so a negative frequency has point 63. The slope's product is rounded down.
 unfoldable pub cosine : ℤ → ℤ
 cosine freq =
     let point = cond (ltb (low16 freq / 256) 63) (low16 freq / 256) 63 in
     add (at lsp-cosine point) (extract-l (l-shr (l-mult (at lsp-cosine-slope point) (pos (low16 freq % 256))) (pos 13)))
 
+-- the scale, Q17, takes radians in Q13 to units of π / 64 in Q8
 unfoldable pub lsf-to-lsp : ℤ → List ℤ → List ℤ
 lsf-to-lsp scale lsf = tab 10 (λ i. cosine (mult (at lsf i) scale))
 

@@ -1,4 +1,4 @@
--- Excitation and reconstructed speech: ITU-T G.729, clauses 3.10 and 4.1.6, equations (75) and (77).
+-- Excitation and reconstructed speech: ITU-T G.729, clause 4.1.6, equations (75) and (77).
 -- A frame has 234 words of excitation, 154 of the past and 80 of its own, and 90 words of speech, the last ten samples of the frame
 -- before and 80 of its own. A subframe is 40 of the 80 words: the first half of them, or the second.
 use Prim.Native.Nat.{ℕ, _+_, _-_, _^_}

@@ -1,4 +1,4 @@
-// Excitation and synthesis: G.729 clauses 3.10 and 4.1.6, equations (75) and (77). The caller lends the frame's 234 words of
+// Excitation and synthesis: G.729 clause 4.1.6, equations (75) and (77). The caller lends the frame's 234 words of
 // excitation (154 of the past, then 80) and its 90 words of speech (the last ten samples before it, then 80).
 ghost use mathlib.Core.Path.{_≡_};
 ghost use Prim.Native.Nat.{_≤_};

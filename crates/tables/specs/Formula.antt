@@ -4,7 +4,7 @@ use Prim.Native.Nat.{_*_}
 use lib.IntN.{ℤ, pos, negsuc, negℤ}
 use lib.ListN.{replicate}
 
--- cos (i π / 64) for i from 0 to 63, Q15, to the nearest; 1 is 32767 (clauses 3.2.6 and 4.1.1)
+-- cos (i π / 64) for i from 0 to 63, Q15, to the nearest; 1.0 saturates to 32767 (clauses 3.2.6 and 4.1.1)
 unfoldable pub lsp-cosine : List ℤ
 lsp-cosine =
     pos 32767 ∷ pos 32729 ∷ pos 32610 ∷ pos 32413 ∷ pos 32138 ∷ pos 31786 ∷ pos 31357 ∷ pos 30853 ∷ pos 30274 ∷ pos 29622 ∷ pos 28899 ∷ pos 28106 ∷
@@ -37,7 +37,7 @@ unfoldable pub gain-prediction-coefficients : List ℤ
 gain-prediction-coefficients =
     pos 5571 ∷ pos 4751 ∷ pos 2785 ∷ pos 1556 ∷ []
 
--- i π / 11 for i from 1 to 10, Q13, cut off (clause 3.2.4, Table 9)
+-- i π / 11 for i from 1 to 10, Q13, truncated (clause 3.2.4, Table 9)
 unfoldable pub lsp-quantizer-initial-memory : List ℤ
 lsp-quantizer-initial-memory =
     pos 2339 ∷ pos 4679 ∷ pos 7018 ∷ pos 9358 ∷ pos 11698 ∷ pos 14037 ∷ pos 16377 ∷ pos 18717 ∷ pos 21056 ∷ pos 23396 ∷ []

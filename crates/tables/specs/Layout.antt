@@ -1,4 +1,4 @@
--- The table block: 1,880 words that the caller hands in, since G.729 neither states them nor gives a formula for them.
+-- The table block: 1,880 words that the caller hands in, the values that the Rust takes from the licensed package of ITU-T G.729.
 -- Each definition names a part by its place in the block; a word past the end is 0. The comments say what G.729 holds there:
 -- nothing is assumed of the words.
 use mathlib.Core.Path.{_≡_}
@@ -30,7 +30,7 @@ lsp-cb2 t i = row t (1280 + 10 * i)
 abbrev pub lsp-ma : List ℤ → ℕ → List (List ℤ)
 lsp-ma t p = row t (1600 + 40 * p) ∷ row t (1610 + 40 * p) ∷ row t (1620 + 40 * p) ∷ row t (1630 + 40 * p) ∷ []
 
--- the complement of its weights, which 1 less their sum stands for, Q15 (clause 3.2.4, equation (20))
+-- 1 less the sum of its weights, as words of the block, Q15 (clause 3.2.4, equation (20))
 abbrev pub lsp-ma-sum : List ℤ → ℕ → List ℤ
 lsp-ma-sum t p = row t (1680 + 10 * p)
 
@@ -42,11 +42,11 @@ lsp-ma-sum-inv t p = row t (1700 + 10 * p)
 unfoldable pub b30 : List ℤ → List ℤ
 b30 t = tab 31 (λ k. at t (1720 + k))
 
--- word j of row i of the gain codebook GA, 8 rows of 2 (clause 3.9.2)
+-- word j of row i of the gain codebook GA, 8 rows of 2: the pitch gain, Q14, and the correction factor, Q13 (clause 3.9.2)
 abbrev pub gain-ga : List ℤ → ℕ → ℕ → ℤ
 gain-ga t i j = at t (1751 + 2 * i + j)
 
--- word j of row i of the gain codebook GB, 16 rows of 2 (clause 3.9.2)
+-- word j of row i of the gain codebook GB, 16 rows of the same (clause 3.9.2)
 abbrev pub gain-gb : List ℤ → ℕ → ℕ → ℤ
 gain-gb t i j = at t (1767 + 2 * i + j)
 
@@ -66,7 +66,7 @@ log2 t = tab 33 (λ k. at t (1823 + k))
 abbrev pub initial-lsp : List ℤ → List ℤ
 initial-lsp t = row t 1856
 
--- ---- the scalars: the order of the words behind 1866
+-- ---- the scalars, from word 1866 on: bounds and factors of clauses 3.2.4 to 4.4 (src/lib.rt has the format of each)
 
 abbrev pub place : Scalar → ℕ
 place PitchSharpeningMax = 0

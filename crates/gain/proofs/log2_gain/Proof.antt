@@ -21,7 +21,7 @@ returns c =
       came w16 (c2 .scalars) ∙ c2 .scalars .ensures,
       came w16 (c3 .extract-h) ∙ c3 .extract-h .ensures,
       came w32 (c4 .prediction) ∙ c4 .prediction .ensures,
-      came w32 (c5 .mean-less-energy) ∙ c5 .mean-less-energy .ensures,
+      came w32 (c5 .mean-and-energy) ∙ c5 .mean-and-energy .ensures,
     )
 
 pub log2-gain-spec : {M : Type 1} → statement M

@@ -3,7 +3,7 @@ use mathlib.Core.Path.{_∙_}
 use mir.Syntax.{w16}
 use mir.Facts.{toZ-ofZ}
 use Rattle.laws.specs.Back.{via2}
-use Rattle.lsp.specs.Lsp.{min, max}
+use Rattle.basic_op.specs.Ops.{lesser, greater}
 use Rattle.lsp.specs.Laws.{bounded}
 use borrow.Author.Needs.{needs}
 use Rattle.lsp.proofs.order_and_bound.Statement.{statement}
@@ -14,9 +14,9 @@ returns c =
     let s = c .before .before .before .before .before .before in
     let m = c .before .before .before in
     bounded _ _ _ _ _ _ (c .before .before .before .before .before .sort .ensures)
-    (via2 w16 w16 w16 max _ _ (m .max .result) (m .before .max-arg .given) (s .fits .low .sfits) (m .max .ok) (m .max .ensures))
+    (via2 w16 w16 w16 greater _ _ (m .greater .result) (m .before .greater-arg .given) (s .fits .low .sfits) (m .greater .ok) (m .greater .ensures))
     (c .before .before .keep-distances .ensures ∙ rw (toZ-ofZ (s .fits .distance)))
-    (via2 w16 w16 w16 min _ _ (c .min .result) (c .before .min-arg .given) (s .fits .high .sfits) (c .min .ok) (c .min .ensures))
+    (via2 w16 w16 w16 lesser _ _ (c .lesser .result) (c .before .lesser-arg .given) (s .fits .high .sfits) (c .lesser .ok) (c .lesser .ensures))
 
 pub order-and-bound-spec : {M : Type 1} → statement M
 order-and-bound-spec =

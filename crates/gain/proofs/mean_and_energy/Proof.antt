@@ -1,19 +1,19 @@
--- `gain::mean_less_energy` meets its contract. Assumes nothing.
+-- `gain::mean_and_energy` meets its contract. Assumes nothing.
 use mathlib.Core.Path.{_∙_}
 use Prim.Native.Nat.{_<_}
 use borrow.Author.Needs.{needs}
 use lib.Signed.{mag}
 use mir.Syntax.{w16, w32}
 use Rattle.laws.specs.Back.{came, via}
-use Rattle.gain.specs.Gain.{mean-less-energy}
-use Rattle.gain.proofs.mean_less_energy.Statement.{statement}
-use Rattle.gain.proofs.mean_less_energy.Tie as tie
+use Rattle.gain.specs.Gain.{mean-and-energy}
+use Rattle.gain.proofs.mean_and_energy.Statement.{statement}
+use Rattle.gain.proofs.mean_and_energy.Tie as tie
 
 parts : (c : tie.After-log) → (mag (c .log .result .integer) < 32768) × (mag (c .log .result .fraction) < 32768)
 parts c = search needs
 
 returns : tie.Need-returns
-unfolding mean-less-energy
+unfolding mean-and-energy
 returns c =
     let c1 = c .before in
     let c2 = c1 .before in
@@ -39,5 +39,5 @@ returns c =
       came w32 (c9 .energy) ∙ c9 .energy .ensures,
     )
 
-pub mean-less-energy-spec : {M : Type 1} → statement M
-mean-less-energy-spec = tie.close (tie.spec (λ c κs. search needs) (λ c κs. search needs) (λ c κs. search needs) (λ c κs. search needs) (λ c κs. search needs) (λ c κs. search needs) (λ c κs. search needs) (λ c κs. search needs) returns)
+pub mean-and-energy-spec : {M : Type 1} → statement M
+mean-and-energy-spec = tie.close (tie.spec (λ c κs. search needs) (λ c κs. search needs) (λ c κs. search needs) (λ c κs. search needs) (λ c κs. search needs) (λ c κs. search needs) (λ c κs. search needs) (λ c κs. search needs) returns)
