@@ -1,0 +1,2 @@
+-- Laws that the proofs of `state` share.
+pub mod Parts

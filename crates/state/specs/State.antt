@@ -1,0 +1,114 @@
+-- The state block (01, "The table block and the state block"): 234 words, and the values that they stand for.
+use Prim.Native.Nat.{ℕ, _+_}
+use mathlib.Core.Bool.{Bool, true, false, cond, _&&_}
+use mathlib.Core.List.{List, [], _∷_, _++_}
+use lib.Dec.{eqb}
+use lib.IntN.{ℤ, pos}
+use lib.ListN.{length, replicate}
+use lib.Signed.{leZ}
+use Rattle.laws.specs.Lists.{at, tab}
+use Rattle.tables.specs.declared.Scalar.the-variants.{InitialPreviousPitchDelay}
+use Rattle.tables.specs.Layout.{initial-lsp, scalar, table-check}
+use Rattle.tables.specs.Formula.{lsp-quantizer-initial-memory, gain-predictor-initial-memory}
+use Rattle.state.specs.declared.Params.{Params}
+
+-- the n words of b from place `from` on
+unfoldable pub part : List ℤ → ℕ → ℕ → List ℤ
+part b from n = tab n (λ k. at b (from + k))
+
+-- words 70 to 233: the last 154 words of excitation and the last ten samples, oldest first
+pub record Signal : Type 0 where
+  pub past : List ℤ
+  pub tail : List ℤ
+
+pub record State : Type 0 where
+  pub params : Params
+  pub signal : Signal
+
+-- ---- from a block to values, and back
+
+unfoldable pub read-params : List ℤ → Params
+read-params b =
+    record {
+      r0 = part b 0 10;
+      r1 = part b 10 10;
+      r2 = part b 20 10;
+      r3 = part b 30 10;
+      predictor = at b 40;
+      omega = part b 41 10;
+      lsp = part b 51 10;
+      pitch = record { old = at b 61 };
+      seed = at b 62;
+      gain = record { mem = part b 63 4; gp = at b 67; gc = at b 68 };
+      beta = at b 69;
+    }
+
+unfoldable pub read-signal : List ℤ → Signal
+read-signal b = record { past = part b 70 154; tail = part b 224 10 }
+
+unfoldable pub read : List ℤ → State
+read b = record { params = read-params b; signal = read-signal b }
+
+unfoldable pub write-params : Params → List ℤ
+write-params p =
+    p .r0 ++ (p .r1 ++ (p .r2 ++ (p .r3 ++ (p .predictor ∷ (p .omega ++ (p .lsp
+    ++ (p .pitch .old ∷ p .seed ∷ (p .gain .mem ++ (p .gain .gp ∷ p .gain .gc ∷ p .beta ∷ [])))))))))
+
+unfoldable pub write : State → List ℤ
+write s = write-params (s .params) ++ (s .signal .past ++ s .signal .tail)
+
+-- ---- the fresh state (01; `Decoder::new` of the Rust)
+
+unfoldable pub fresh-params : List ℤ → Params
+fresh-params t =
+    record {
+      r0 = lsp-quantizer-initial-memory;
+      r1 = lsp-quantizer-initial-memory;
+      r2 = lsp-quantizer-initial-memory;
+      r3 = lsp-quantizer-initial-memory;
+      predictor = pos 0;
+      omega = lsp-quantizer-initial-memory;
+      lsp = initial-lsp t;
+      pitch = record { old = scalar t InitialPreviousPitchDelay };
+      -- clause 4.4.4
+      seed = pos 21845;
+      gain = record { mem = gain-predictor-initial-memory; gp = pos 0; gc = pos 0 };
+      -- 0.2 in Q14, the least of equation (47)
+      beta = pos 3277;
+    }
+
+unfoldable pub fresh : List ℤ → State
+fresh t = record { params = fresh-params t; signal = record { past = replicate 154 (pos 0); tail = replicate 10 (pos 0) } }
+
+-- ---- refusals
+
+unfoldable pub a-delay : ℤ → Bool
+a-delay d = leZ (pos 19) d && leZ d (pos 144)
+
+unfoldable pub a-predictor : ℤ → Bool
+a-predictor p = leZ (pos 0) p && leZ p (pos 1)
+
+-- predictor and delay are in range
+unfoldable pub accepted : Params → Bool
+accepted p = a-predictor (p .predictor) && a-delay (p .pitch .old)
+
+-- 3: not 234 words. 4: predictor or delay out of range.
+unfoldable pub state-check : List ℤ → ℕ
+state-check b = cond (eqb (length b) 234) (cond (accepted (read-params b)) 0 4) 3
+
+-- a block to which refusals 3 and 4 don't apply
+unfoldable pub accepted-state : List ℤ → Bool
+accepted-state b = eqb (length b) 234 && accepted (read-params b)
+
+-- ---- the operation Fresh state
+
+-- the number returned, and the state block as the call leaves it
+pub data Answer : Type 0 where
+  answer : ℕ → List ℤ → Answer
+
+-- 1, 2: the table check. 3: not 234 words. Success writes the fresh state; a refusal leaves the block as it was.
+unfoldable pub fresh-state : List ℤ → List ℤ → Answer
+fresh-state t b =
+    cond (eqb (table-check t) 0)
+    (cond (eqb (length b) 234) (answer 0 (write (fresh t))) (answer 3 b))
+    (answer (table-check t) b)
