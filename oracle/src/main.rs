@@ -6,6 +6,7 @@ mod generate;
 mod ops;
 mod program;
 mod real;
+mod replay;
 mod report;
 mod rng;
 mod selftest;
@@ -29,6 +30,8 @@ const USAGE: &str = "usage:
   g729-oracle gen SEED call KIND FRAMES [PERCENT]
   g729-oracle fresh TABLES
   g729-oracle fields [HEX ...]
+  g729-oracle replay SEED CASES FRAMES
+  g729-oracle calls SEED CASES FRAMES
   g729-oracle stages TABLES [--state FILE]
   g729-oracle decode TABLES [--state FILE] [--save FILE] [--whole]
   g729-oracle bench TABLES CALL N
@@ -61,6 +64,16 @@ fn dispatch(args: &[&str]) -> Outcome {
             write(&blocks::bytes(&harness::save(&Decoder::new(&tables))))
         }
         ["fields", ref digits @ ..] => fields(digits),
+        ["replay", seed, cases, frames] => {
+            let mut out = output();
+            replay::stages(&mut out, number(seed)?, number(cases)?, number(frames)?)?;
+            finish(out)
+        }
+        ["calls", seed, cases, frames] => {
+            let mut out = output();
+            replay::calls(&mut out, number(seed)?, number(cases)?, number(frames)?)?;
+            finish(out)
+        }
         ["stages", tables] => print_stages(tables, None),
         ["stages", tables, "--state", state] => print_stages(tables, Some(state)),
         ["decode", tables, ref options @ ..] => decode(tables, options),
