@@ -1,0 +1,350 @@
+-- Two decoders on one list of voice frames: which parts of their parameters are equal after n frames, and so which values of the frames are.
+use Prim.Native.Nat.{ℕ, zero, suc, _+_, _-_, _≤_}
+use mathlib.Core.Path.{_≡_, refl, sym, ap, ap₂, _∙_, subst}
+use mathlib.Core.Bool.{Bool, true, false}
+use mathlib.Core.List.{List, [], _∷_, map}
+use native.Mathlib.Omega.{arith}
+use lib.Dec.{T, eqb·suc-zero}
+use lib.IntN.{ℤ}
+use lib.ListN.{drop, take}
+use Rattle.laws.specs.Lists.{at}
+use Rattle.bitstream.specs.declared.SpeechParams.{SpeechParams}
+use Rattle.bitstream.specs.Fields.{unpack}
+use Rattle.lsp.specs.Lsp.{new-row, decode-lsf, interpolate}
+use Rattle.lpc.specs.Lpc.{lsp-to-lp}
+use Rattle.adaptive.specs.declared.Delay.{Delay}
+use Rattle.adaptive.specs.Adaptive as adaptive
+use Rattle.gain.specs.Gain as gain
+use Rattle.plc.specs.Kinds.{decide}
+use Rattle.state.specs.declared.Params.{Params}
+use Rattle.state.specs.State.{Signal, State, read, accepted}
+use Rattle.decoder.specs.declared.Decoded.{Decoded}
+use Rattle.decoder.specs.Frame.{to-lsp, subframe, voice, parameters, Buffers, frame-signal, decode}
+use Rattle.agreement.specs.Demand.{Call, FrameValues, delays, pitch-gains, fixed-gains, frequencies, filters, signal-before, samples, All, VoiceWith, PassesParity, DelaysInRange, Alike, Agreement}
+use Rattle.agreement.proofs.Ranges.{delays-good, accepted-after-frame}
+use Rattle.agreement.proofs.Runs.{code, given, said, run, accepted-params, answers-are, frames-are}
+
+-- ---- what is equal after n frames
+
+pub record Agree (n : ℕ) (p q : Params) : Type 0 where
+  pub old : 1 ≤ n → p .pitch .old ≡ q .pitch .old
+  pub beta : 1 ≤ n → p .beta ≡ q .beta
+  pub mem0 : 1 ≤ n → at (p .gain .mem) 0 ≡ at (q .gain .mem) 0
+  pub mem1 : 1 ≤ n → at (p .gain .mem) 1 ≡ at (q .gain .mem) 1
+  pub mem : 2 ≤ n → p .gain .mem ≡ q .gain .mem
+  pub r0 : 1 ≤ n → p .r0 ≡ q .r0
+  pub r1 : 2 ≤ n → p .r1 ≡ q .r1
+  pub r2 : 3 ≤ n → p .r2 ≡ q .r2
+  pub r3 : 4 ≤ n → p .r3 ≡ q .r3
+  pub lsp : 5 ≤ n → p .lsp ≡ q .lsp
+
+none : {A : Type 0} {n : ℕ} → suc n ≤ 0 → A
+none h = absurd (omega arith)
+
+at-start : (p q : Params) → Agree 0 p q
+at-start p q = record { old = none; beta = none; mem0 = none; mem1 = none; mem = none; r0 = none; r1 = none; r2 = none; r3 = none; lsp = none }
+
+-- ---- one voice frame after n frames
+
+module _ (t : List ℤ) (f : SpeechParams) {n : ℕ} {p q : Params} (h : Agree n p q) (first : n ≡ 0 → T (adaptive.parity-ok (f .p1) (f .p0))) where
+  v : Decoded
+  v = voice t f p
+
+  w : Decoded
+  w = voice t f q
+
+  passing : (b : Bool) → T b → b ≡ true
+  passing true x = refl
+  passing false x = absurd x
+
+  -- the first delay is the carried one only if parity fails
+  tracked : adaptive.first (p .pitch .old) (f .p1) (adaptive.parity-ok (f .p1) (f .p0)) ≡ adaptive.first (q .pitch .old) (f .p1) (adaptive.parity-ok (f .p1) (f .p0))
+  unfolding adaptive.first
+  tracked = go n refl
+    where
+      go : (k : ℕ) → n ≡ k → adaptive.first (p .pitch .old) (f .p1) (adaptive.parity-ok (f .p1) (f .p0)) ≡ adaptive.first (q .pitch .old) (f .p1) (adaptive.parity-ok (f .p1) (f .p0))
+      go zero e = rw (passing (adaptive.parity-ok (f .p1) (f .p0)) (first e))
+      go (suc k) e = ap (λ (d : ℤ). adaptive.first d (f .p1) (adaptive.parity-ok (f .p1) (f .p0))) (h .old (omega arith))
+
+  same-delays : (v .first .delay ≡ w .first .delay) × (v .second .delay ≡ w .second .delay)
+  unfolding v w voice subframe
+  same-delays = let e = tracked in (cc, cc)
+
+  same-pitch : (v .first .gp ≡ w .first .gp) × (v .second .gp ≡ w .second .gp)
+  unfolding v w voice subframe gain.decode
+  same-pitch = (refl, refl)
+
+  same-codes : 1 ≤ n → (v .first .code ≡ w .first .code) × (v .second .code ≡ w .second .code)
+  unfolding v w voice subframe gain.decode
+  same-codes l = let e = tracked in let b = h .beta l in (cc, cc)
+
+  same-fixed : 2 ≤ n → (v .first .gc ≡ w .first .gc) × (v .second .gc ≡ w .second .gc)
+  unfolding v w voice subframe gain.decode
+  same-fixed l = let e = tracked in let b = h .beta (omega arith) in let m = h .mem l in (cc, cc)
+
+  same-lsf : 4 ≤ n → v .params .omega ≡ w .params .omega
+  unfolding v w voice
+  same-lsf l =
+      let e0 = h .r0 (omega arith) in
+      let e1 = h .r1 (omega arith) in
+      let e2 = h .r2 (omega arith) in
+      let e3 = h .r3 l in
+      λ i. decode-lsf t (f .l0) (new-row t (f .l1) (f .l2) (f .l3)) (e0 i ∷ e1 i ∷ e2 i ∷ e3 i ∷ [])
+
+  same-filters : 5 ≤ n → (v .first .a ≡ w .first .a) × (v .second .a ≡ w .second .a)
+  unfolding v w voice subframe
+  same-filters l =
+      let e : v .params .omega ≡ w .params .omega = same-lsf (omega arith) in
+      let b = h .lsp l in
+      (λ i. lsp-to-lp (interpolate (b i) (to-lsp t (e i))), λ i. lsp-to-lp (to-lsp t (e i)))
+
+  -- all that the signal is made from
+  same-subframes : 5 ≤ n → (v .first ≡ w .first) × (v .second ≡ w .second)
+  unfolding v w voice subframe
+  same-subframes l =
+      let d = same-delays in
+      let g = same-pitch in
+      let c = same-codes (omega arith) in
+      let k = same-fixed (omega arith) in
+      let a = same-filters l in (
+        λ i. record { delay = d .0 i; gp = g .0 i; gc = k .0 i; code = c .0 i; a = a .0 i },
+        λ i. record { delay = d .1 i; gp = g .1 i; gc = k .1 i; code = c .1 i; a = a .1 i },
+      )
+
+  one-more : Agree (suc n) (v .params) (w .params)
+  unfolding v w voice subframe gain.decode gain.push adaptive.second
+  one-more =
+      record {
+        old = λ l. ap (λ (d : Delay). d .integer) (same-delays .1);
+        beta = λ l. refl;
+        mem0 = λ l. refl;
+        mem1 = λ l. refl;
+        mem = λ l. let e0 = h .mem0 (omega arith) in let e1 = h .mem1 (omega arith) in λ i. gain.gain-error t (f .ga2) (f .gb2) ∷ gain.gain-error t (f .ga1) (f .gb1) ∷ e0 i ∷ e1 i ∷ [];
+        r0 = λ l. refl;
+        r1 = λ l. h .r0 (omega arith);
+        r2 = λ l. h .r1 (omega arith);
+        r3 = λ l. h .r2 (omega arith);
+        lsp = λ l. ap (to-lsp t) (same-lsf (omega arith));
+      }
+
+-- ---- one call that returns 0 and is a voice frame
+
+voiced : (c : Call) (s : State) → c .kind ≡ 0 → given c s .decoded ≡ voice (c .tables) (unpack (c .payload)) (s .params)
+unfolding given decode decide parameters
+voiced c s k = rw k
+
+module _ (n : ℕ) (c : Call) (k : c .kind ≡ 0) (a b : State) (h : Agree n (a .params) (b .params)) (first : n ≡ 0 → PassesParity (said c a)) where
+  t : List ℤ
+  t = c .tables
+
+  f : SpeechParams
+  f = unpack (c .payload)
+
+  parity : n ≡ 0 → T (adaptive.parity-ok (f .p1) (f .p0))
+  unfolding f said
+  parity e = first e
+
+  now : {A : Type 0} (g : Decoded → A) → g (voice t f (a .params)) ≡ g (voice t f (b .params)) → g (given c a .decoded) ≡ g (given c b .decoded)
+  unfolding t f
+  now g e = ap g (voiced c a k) ∙ e ∙ sym (ap g (voiced c b k))
+
+  agree-after : Agree (suc n) (given c a .state .params) (given c b .state .params)
+  unfolding given decode t f v w
+  agree-after = subst (λ (x : Decoded). Agree (suc n) (x .params) (given c b .decoded .params)) (sym (voiced c a k)) half
+    where
+      half : Agree (suc n) (voice (c .tables) (unpack (c .payload)) (a .params) .params) (given c b .decoded .params)
+      half = subst (λ (x : Decoded). Agree (suc n) (voice (c .tables) (unpack (c .payload)) (a .params) .params) (x .params)) (sym (voiced c b k)) (one-more t f h parity)
+
+  delays-now : delays (said c a) ≡ delays (said c b)
+  unfolding said v w
+  delays-now = now (λ d. (d .first .delay, d .second .delay)) (let e = same-delays t f h parity in λ i. (e .0 i, e .1 i))
+
+  pitch-now : pitch-gains (said c a) ≡ pitch-gains (said c b)
+  unfolding said v w
+  pitch-now = now (λ d. (d .first .gp, d .second .gp)) (let e = same-pitch t f h parity in λ i. (e .0 i, e .1 i))
+
+  fixed-now : 2 ≤ n → fixed-gains (said c a) ≡ fixed-gains (said c b)
+  unfolding said v w
+  fixed-now l = now (λ d. (d .first .gc, d .second .gc)) (let e = same-fixed t f h parity l in λ i. (e .0 i, e .1 i))
+
+  lsf-now : 4 ≤ n → frequencies (said c a) ≡ frequencies (said c b)
+  unfolding said v w
+  lsf-now l = now (λ d. d .params .omega) (same-lsf t f h parity l)
+
+  filters-now : 5 ≤ n → filters (said c a) ≡ filters (said c b)
+  unfolding said v w
+  filters-now l = now (λ d. (d .first .a, d .second .a)) (let e = same-filters t f h parity l in λ i. (e .0 i, e .1 i))
+
+  -- equal subframes on an equal signal
+  buffers-now : 5 ≤ n → a .signal ≡ b .signal →
+      frame-signal (c .tables) (given c a .decoded .first) (given c a .decoded .second) (a .signal) ≡
+      frame-signal (c .tables) (given c b .decoded .first) (given c b .decoded .second) (b .signal)
+  unfolding v w
+  buffers-now l e =
+      let s = same-subframes t f h parity l in
+      let x = now (λ d. d .first) (s .0) in
+      let y = now (λ d. d .second) (s .1) in
+      λ i. frame-signal (c .tables) (x i) (y i) (e i)
+
+  samples-now : 5 ≤ n → a .signal ≡ b .signal → samples (said c a) ≡ samples (said c b)
+  unfolding said given decode
+  samples-now l e = ap (λ (x : Buffers). drop 10 (x .speech)) (buffers-now l e)
+
+  signal-after : 5 ≤ n → a .signal ≡ b .signal → given c a .state .signal ≡ given c b .state .signal
+  unfolding given decode
+  signal-after l e = let x = buffers-now l e in λ i. record { past = drop 80 (x i .exc); tail = drop 80 (x i .speech) }
+
+-- ---- the run of a list, a call at a time
+
+module _ (c : Call) (cs : List Call) (s : State) where
+  run-frame : code c ≡ 0 → run (c ∷ cs) s ≡ said c s ∷ run cs (given c s .state)
+  unfolding run
+  run-frame e = rw e
+
+  run-none : (k : ℕ) → code c ≡ suc k → run (c ∷ cs) s ≡ run cs s
+  unfolding run
+  run-none k e = rw (e, eqb·suc-zero)
+
+-- a call that returns 0 is a voice frame
+Voices : List Call → Type 0
+Voices cs = All (λ c. code c ≡ 0 → c .kind ≡ 0) cs
+
+voices : (t : List ℤ) (cs : List Call) (s : State) → All (VoiceWith t) (run cs s) → Voices cs
+unfolding Voices said run
+voices t [] s h = tt
+voices t (c ∷ cs) s h = go (code c) refl (voices t cs (given c s .state)) (voices t cs s)
+  where
+    go : (k : ℕ) → code c ≡ k → (All (VoiceWith t) (run cs (given c s .state)) → Voices cs) → (All (VoiceWith t) (run cs s) → Voices cs) → Voices (c ∷ cs)
+    go zero z r u = let x = subst (All (VoiceWith t)) (run-frame c cs s z) h in (λ e. x .0 .0, r (x .1))
+    go (suc k) z r u = (λ e. absurd (omega arith), u (subst (All (VoiceWith t)) (run-none c cs s k z) h))
+
+-- ---- ranges
+
+good : (c : Call) (s : State) → c .kind ≡ 0 → T (accepted (s .params)) → DelaysInRange (said c s)
+unfolding said
+good c s k ok = rw (voiced c s k) (delays-good (s .params) ok (c .tables) (unpack (c .payload)))
+
+good-after : (c : Call) (s : State) → T (accepted (s .params)) → T (accepted (given c s .state .params))
+unfolding given decode
+good-after c s ok = accepted-after-frame (s .params) ok (c .tables) _
+
+in-range : (cs : List Call) (s : State) → Voices cs → T (accepted (s .params)) → All DelaysInRange (run cs s)
+unfolding Voices run
+in-range [] s h ok = tt
+in-range (c ∷ cs) s h ok = go (code c) refl (in-range cs (given c s .state) (h .1) (good-after c s ok)) (in-range cs s (h .1) ok)
+  where
+    go : (k : ℕ) → code c ≡ k → All DelaysInRange (run cs (given c s .state)) → All DelaysInRange (run cs s) → All DelaysInRange (run (c ∷ cs) s)
+    go zero z r u = rw (run-frame c cs s z) (good c s (h .0 z) ok, r)
+    go (suc k) z r u = rw (run-none c cs s k z) u
+
+-- ---- samples, once the signal is equal
+
+heard : (n : ℕ) → 5 ≤ n → (cs : List Call) (a b : State) → Voices cs → Agree n (a .params) (b .params) → a .signal ≡ b .signal → map samples (run cs a) ≡ map samples (run cs b)
+unfolding Voices run
+heard n l [] a b h g e = refl
+heard n l (c ∷ cs) a b h g e =
+    go (code c) refl
+    (λ k. heard (suc n) (omega arith) cs (given c a .state) (given c b .state) (h .1) (agree-after n c k a b g past-first) (signal-after n c k a b g past-first l e))
+    (heard n l cs a b (h .1) g e)
+  where
+    past-first : n ≡ 0 → PassesParity (said c a)
+    past-first z = absurd (omega arith)
+
+    go : (m : ℕ) → code c ≡ m → (c .kind ≡ 0 → map samples (run cs (given c a .state)) ≡ map samples (run cs (given c b .state))) → map samples (run cs a) ≡ map samples (run cs b)
+        → map samples (run (c ∷ cs) a) ≡ map samples (run (c ∷ cs) b)
+    go zero z r u = rw (run-frame c cs a z, run-frame c cs b z) (ap₂ _∷_ (samples-now n c (h .0 z) a b g past-first l e) (r (h .0 z)))
+    go (suc m) z r u = rw (run-none c cs a m z, run-none c cs b m z) u
+
+-- ---- the frames that follow n frames
+
+-- f of those from frame k + 1 on
+abbrev Later : {A : Type 0} → ℕ → ℕ → (FrameValues → A) → List FrameValues → List FrameValues → Type 0
+Later k n f vs ws = map f (drop (k - n) vs) ≡ map f (drop (k - n) ws)
+
+later : {A : Type 0} (k n : ℕ) (f : FrameValues → A) (v w : FrameValues) (vs ws : List FrameValues) → (k ≤ n → f v ≡ f w) → Later k (suc n) f vs ws → Later k n f (v ∷ vs) (w ∷ ws)
+later k n f v w vs ws now rest = go (k - n) refl
+  where
+    go : (m : ℕ) → k - n ≡ m → map f (drop m (v ∷ vs)) ≡ map f (drop m (w ∷ ws))
+    go zero e =
+        let z : k - suc n ≡ 0 = omega arith in
+        let r : map f (drop 0 vs) ≡ map f (drop 0 ws) = rw z at rest in
+        ap₂ _∷_ (now (omega arith)) r
+    go (suc m) e = let z : k - suc n ≡ m = omega arith in rw z at rest
+
+record Rest (n : ℕ) (vs ws : List FrameValues) : Type 0 where
+  delays : Later 0 n delays vs ws
+  pitch : Later 0 n pitch-gains vs ws
+  fixed : Later 2 n fixed-gains vs ws
+  lsf : Later 4 n frequencies vs ws
+  filters : Later 5 n filters vs ws
+  samples : (m : ℕ) → 5 ≤ n + m → map signal-before (take 1 (drop m vs)) ≡ map signal-before (take 1 (drop m ws)) → map samples (drop m vs) ≡ map samples (drop m ws)
+
+front : List Signal → Signal
+front [] = record { past = []; tail = [] }
+front (x ∷ l) = x
+
+one-call : (n : ℕ) (c : Call) (k : c .kind ≡ 0) (a b : State) (vs ws : List FrameValues) → Agree n (a .params) (b .params) → (n ≡ 0 → PassesParity (said c a))
+    → (5 ≤ n → a .signal ≡ b .signal → map samples vs ≡ map samples ws) → Rest (suc n) vs ws → Rest n (said c a ∷ vs) (said c b ∷ ws)
+unfolding said front
+one-call n c k a b vs ws h first loud r =
+    let x = said c a in
+    let y = said c b in
+    record {
+      delays = later 0 n delays x y vs ws (λ l. delays-now n c k a b h first) (r .delays);
+      pitch = later 0 n pitch-gains x y vs ws (λ l. pitch-now n c k a b h first) (r .pitch);
+      fixed = later 2 n fixed-gains x y vs ws (λ l. fixed-now n c k a b h first l) (r .fixed);
+      lsf = later 4 n frequencies x y vs ws (λ l. lsf-now n c k a b h first l) (r .lsf);
+      filters = later 5 n filters x y vs ws (λ l. filters-now n c k a b h first l) (r .filters);
+      samples = same;
+    }
+  where
+    same : (m : ℕ) → 5 ≤ n + m → map signal-before (take 1 (drop m (said c a ∷ vs))) ≡ map signal-before (take 1 (drop m (said c b ∷ ws)))
+        → map samples (drop m (said c a ∷ vs)) ≡ map samples (drop m (said c b ∷ ws))
+    same zero l e = let s = ap front e in ap₂ _∷_ (samples-now n c k a b h first (omega arith) s) (loud (omega arith) s)
+    same (suc m) l e = r .samples m (omega arith) e
+
+-- frame 1 is among those that follow only where n is 0
+First : ℕ → List FrameValues → Type 0
+First n vs = n ≡ 0 → All PassesParity (take 1 vs)
+
+rest : (n : ℕ) (cs : List Call) (a b : State) → Voices cs → Agree n (a .params) (b .params) → First n (run cs a) → Rest n (run cs a) (run cs b)
+unfolding Voices run First
+rest n [] a b h g first = record { delays = refl; pitch = refl; fixed = refl; lsf = refl; filters = refl; samples = λ m l e. refl }
+rest n (c ∷ cs) a b h g first =
+    go (code c) refl
+    (λ k p. rest (suc n) cs (given c a .state) (given c b .state) (h .1) (agree-after n c k a b g p) (λ z. absurd (omega arith)))
+    (λ p. rest n cs a b (h .1) g p)
+  where
+    go : (m : ℕ) → code c ≡ m
+        → (c .kind ≡ 0 → (n ≡ 0 → PassesParity (said c a)) → Rest (suc n) (run cs (given c a .state)) (run cs (given c b .state)))
+        → (First n (run cs a) → Rest n (run cs a) (run cs b))
+        → Rest n (run (c ∷ cs) a) (run (c ∷ cs) b)
+    go zero z r u =
+        let k = h .0 z in
+        let p : n ≡ 0 → PassesParity (said c a) = λ e. (rw (run-frame c cs a z) at (first e)) .0 in
+        rw (run-frame c cs a z, run-frame c cs b z)
+        (one-call n c k a b _ _ g p (λ l e. heard (suc n) (omega arith) cs (given c a .state) (given c b .state) (h .1) (agree-after n c k a b g p) (signal-after n c k a b g p l e)) (r k p))
+    go (suc m) z r u = rw (run-none c cs a m z, run-none c cs b m z) (u (λ e. rw (run-none c cs a m z) at (first e)))
+
+-- ---- the claim on blocks
+
+pub agreement : (tables : List ℤ) (cs : List Call) (a b : List ℤ) → Alike tables cs a b → Agreement cs a b
+unfolding First
+agreement tables cs a b k =
+    let at-a = k .handed .start-a in
+    let at-b = k .handed .start-b in
+    let x = frames-are cs a at-a in
+    let y = frames-are cs b at-b in
+    let h = voices tables cs (read a) (subst (All (VoiceWith tables)) x (k .handed .voice)) in
+    let first : First 0 (run cs (read a)) = λ e. subst (λ (l : List FrameValues). All PassesParity (take 1 l)) x (k .parity) in
+    let r = rest 0 cs (read a) (read b) h (at-start (read a .params) (read b .params)) first in
+    record {
+      answered = answers-are cs a at-a ∙ sym (answers-are cs b at-b);
+      delays-from-1 = rw (x, y) (r .delays);
+      pitch-gains-from-1 = rw (x, y) (r .pitch);
+      fixed-gains-from-3 = rw (x, y) (r .fixed);
+      frequencies-from-5 = rw (x, y) (r .lsf);
+      filters-from-6 = rw (x, y) (r .filters);
+      samples-from-6 = rw (x, y) (λ n l e. r .samples (n - 1) (omega arith) e);
+      in-range = (rw x (in-range cs (read a) h (accepted-params a at-a)), rw y (in-range cs (read b) h (accepted-params b at-b)));
+    }

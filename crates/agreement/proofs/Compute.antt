@@ -1,0 +1,31 @@
+-- All definitions of a voice frame's parameters and of the run, to compute with: `unfolding Run` opens them.
+use Rattle.laws.specs.Lists.{tab}
+use Rattle.laws.specs.Loops as loops
+use Rattle.basic_op.specs.Ops as op
+use Rattle.basic_op.specs.Oper32b as op32
+use Rattle.tables.specs.Layout as tables
+use Rattle.tables.specs.Formula as formula
+use Rattle.bitstream.specs.Fields as bitstream
+use Rattle.lsp.specs.Lsp as lsp
+use Rattle.lpc.specs.Lpc as lpc
+use Rattle.adaptive.specs.Adaptive as adaptive
+use Rattle.fixed.specs.Fixed as fixed
+use Rattle.gain.specs.Gain as gain
+use Rattle.plc.specs.Kinds as plc
+use Rattle.state.specs.State as state
+use Rattle.decoder.specs.Frame as decoder
+use Rattle.decoder.specs.Call as call
+use Rattle.agreement.specs.Demand as demand
+use Rattle.agreement.proofs.Runs as runs
+
+unfoldable pub Operators : Type 0
+unfolding tab loops.steps loops.run op.sat op.add op.sub op.mult op.l-mult op.l-add op.l-sub op.l-mac op.l-msu op.extract-h op.low16 op.extract-l op.l-deposit-h op.round op.by-sign op.shl op.l-shl op.l-shr op.rounded op.l-shr-r op.normal op.doublings op.norm-l op.lesser op.greater op32.split-high-low op32.join-high-low op32.multiply-split-by-16 op32.multiply-32-by-16 op32.interpolate-q15 op32.log-fraction op32.base2-log op32.base2-power
+Operators = Unit {0}
+
+unfoldable pub Stages : Type 0
+unfolding Operators tables.row tables.log2 tables.scalar tables.table-check formula.lsp-cosine formula.lsp-cosine-slope formula.pow2 formula.gain-prediction-coefficients bitstream.number bitstream.bits bitstream.widths bitstream.sum bitstream.cut bitstream.fields bitstream.unpack lsp.codebook-sum lsp.spread-pair lsp.enforce-spacing lsp.new-row lsp.add-past lsp.ma-prediction lsp.insert lsp.sort lsp.keep-distance lsp.order-and-bound lsp.decode-lsf lsp.cosine lsp.lsf-to-lsp lsp.interpolate lpc.step lpc.top lpc.older lpc.next-stage lpc.polynomial lpc.f1-prime lpc.f2-prime lpc.half-q12 lpc.coefficient lpc.lsp-to-lp adaptive.nat adaptive.parity-ok adaptive.decode-t1 adaptive.decode-t2 adaptive.first adaptive.second fixed.position fixed.pulse fixed.codevector fixed.sharpen gain.sharpening gain.energy gain.mean-and-energy gain.prediction gain.log2-gain gain.predict gain.row-ga gain.row-gb gain.pitch-gain gain.gamma gain.fixed-gain gain.gain-error gain.push gain.decode
+Stages = Unit {0}
+
+unfoldable pub Run : Type 0
+unfolding Stages plc.payload-length plc.decide state.part state.read-params state.read-signal state.read state.a-delay state.a-predictor state.accepted state.state-check state.accepted-state decoder.sharpened decoder.subframe decoder.voice decoder.parameters decoder.decode call.input-check runs.code runs.given runs.said runs.run
+Run = Unit {0}

@@ -1,0 +1,119 @@
+-- The run of a list of calls on a state's values instead of its block: it never asks for a block's length, so it gives parameters without
+-- computing samples. From an accepted block both runs give the same.
+use Prim.Native.Nat.{ℕ, zero, suc}
+use mathlib.Core.Path.{_≡_, refl, sym, ap, ap₂, _∙_}
+use mathlib.Core.Bool.{Bool, true, false, cond}
+use mathlib.Core.List.{List, [], _∷_, map}
+use native.Mathlib.Omega.{arith}
+use lib.Dec.{T, eqb, eqb·suc-zero}
+use lib.IntN.{ℤ, pos}
+use lib.ListN.{length, replicate, length-replicate}
+use mir.Facts.{and-yes}
+use Rattle.tables.specs.Layout.{table-check}
+use Rattle.plc.specs.Kinds.{decide}
+use Rattle.state.specs.State.{State, read-params, read, write, accepted, accepted-state}
+use Rattle.state.specs.Laws.{Sized, read-sized, read-write, accepted-write, check-of-accepted}
+use Rattle.decoder.specs.Frame.{Frame, decode}
+use Rattle.decoder.specs.Call.{input-check, refusal, answer, frame}
+use Rattle.agreement.specs.Demand.{Call, made, number, block, output, answers, FrameValues, values, frames, AcceptedAfter, AnyOutput}
+use Rattle.agreement.proofs.Lengths.{sized-after}
+use Rattle.agreement.proofs.Ranges.{accepted-after-frame}
+
+-- what a call returns in every accepted state
+unfoldable pub code : Call → ℕ
+code c = cond (eqb (table-check (c .tables)) 0) (input-check (c .kind) (c .payload) (c .room)) (table-check (c .tables))
+
+-- the frame that the call is, and what it leaves
+unfoldable pub given : Call → State → Frame
+given c s = decode (c .tables) (decide (c .kind) (c .payload)) s
+
+unfoldable pub said : Call → State → FrameValues
+said c s = record { call = c; decoded = given c s .decoded; before = s .signal; samples = given c s .samples }
+
+unfoldable pub run : List Call → State → List FrameValues
+run [] s = []
+run (c ∷ cs) s = cond (eqb (code c) 0) (said c s ∷ run cs (given c s .state)) (run cs s)
+
+-- ---- one call on an accepted block
+
+T-true : (b : Bool) → T b → b ≡ true
+T-true true x = refl
+T-true false x = absurd x
+
+pub accepted-params : (b : List ℤ) → T (accepted-state b) → T (accepted (read b .params))
+unfolding accepted-state read
+accepted-params b ok = and-yes (eqb (length b) 234) (accepted (read-params b)) ok .1
+
+module _ (c : Call) (b : List ℤ) (ok : T (accepted-state b)) where
+  refusal-is : refusal (c .tables) b (c .kind) (c .payload) (length (replicate (c .room) (pos 0))) ≡ code c
+  unfolding refusal code
+  refusal-is = rw (check-of-accepted b (T-true (accepted-state b) ok), length-replicate)
+
+  pub made-frame : code c ≡ 0 → made c b ≡ answer 0 (write (given c (read b) .state)) (given c (read b) .samples)
+  unfolding made frame given
+  made-frame e = rw (refusal-is, e)
+
+  pub made-none : (k : ℕ) → code c ≡ suc k → made c b ≡ answer (suc k) b (replicate (c .room) (pos 0))
+  unfolding made frame
+  made-none k e = rw (refusal-is, e, eqb·suc-zero)
+
+  sized : Sized (given c (read b) .state)
+  unfolding given
+  sized = sized-after (c .tables) (read b) (read-sized b) _
+
+  pub read-after : read (write (given c (read b) .state)) ≡ given c (read b) .state
+  read-after = read-write _ sized
+
+  left-accepted : T (accepted (given c (read b) .state .params))
+  unfolding given decode
+  left-accepted = accepted-after-frame (read b .params) (accepted-params b ok) (c .tables) _
+
+  pub frame-accepted : T (accepted-state (write (given c (read b) .state)))
+  frame-accepted = rw (accepted-write (given c (read b) .state) sized (T-true (accepted (given c (read b) .state .params)) left-accepted)) tt
+
+pub accepted-after : AcceptedAfter
+accepted-after c b ok = go (code c) refl
+  where
+    go : (k : ℕ) → code c ≡ k → T (accepted-state (block (made c b)))
+    go zero e = rw (made-frame c b ok e) (frame-accepted c b ok)
+    go (suc k) e = rw (made-none c b ok k e) ok
+
+-- ---- all calls
+
+pub answers-are : (cs : List Call) (b : List ℤ) → T (accepted-state b) → answers cs b ≡ map code cs
+unfolding answers
+answers-are [] b ok = refl
+answers-are (c ∷ cs) b ok = go (code c) refl (answers-are cs _ (accepted-after c b ok))
+  where
+    go : (k : ℕ) → code c ≡ k → answers cs (block (made c b)) ≡ map code cs → number (made c b) ∷ answers cs (block (made c b)) ≡ code c ∷ map code cs
+    go zero e r = ap₂ {C = List ℕ} (λ x l. x ∷ l) (ap number (made-frame c b ok e) ∙ sym e) r
+    go (suc k) e r = ap₂ {C = List ℕ} (λ x l. x ∷ l) (ap number (made-none c b ok k e) ∙ sym e) r
+
+values-are : (c : Call) (b : List ℤ) → T (accepted-state b) → code c ≡ 0 → values c b ≡ said c (read b)
+unfolding values said given read
+values-are c b ok e = rw (made-frame c b ok e)
+
+pub frames-are : (cs : List Call) (b : List ℤ) → T (accepted-state b) → frames cs b ≡ run cs (read b)
+unfolding frames run
+frames-are [] b ok = refl
+frames-are (c ∷ cs) b ok = go (code c) refl (frames-are cs _ (frame-accepted c b ok)) (frames-are cs b ok)
+  where
+    w : List ℤ
+    w = write (given c (read b) .state)
+
+    go : (k : ℕ) → code c ≡ k → frames cs w ≡ run cs (read w) → frames cs b ≡ run cs (read b) → frames (c ∷ cs) b ≡ run (c ∷ cs) (read b)
+    go zero e r s = rw (made-frame c b ok e, e) (ap₂ _∷_ (values-are c b ok e) (r ∙ ap (run cs) (read-after c b ok)))
+    go (suc k) e r s = rw (made-none c b ok k e, e, eqb·suc-zero) s
+
+-- ---- the output's old words
+
+pub any-output : AnyOutput
+unfolding made frame
+any-output c b out h = go (refusal (c .tables) b (c .kind) (c .payload) (c .room)) refl
+  where
+    go : (k : ℕ) → refusal (c .tables) b (c .kind) (c .payload) (c .room) ≡ k →
+        let x = frame (c .tables) b (c .kind) (c .payload) out in
+        let y = made c b in
+        (number x ≡ number y) × (block x ≡ block y) × (number y ≡ 0 → output x ≡ output y)
+    go zero e = rw (h, length-replicate, e) (refl, refl, λ z. refl)
+    go (suc k) e = rw (h, length-replicate, e, eqb·suc-zero) (refl, refl, λ z. absurd (omega arith))

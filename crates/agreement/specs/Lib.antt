@@ -1,0 +1,3 @@
+-- Demand 3, and the values of the stages' definitions.
+pub mod Demand
+pub mod Values

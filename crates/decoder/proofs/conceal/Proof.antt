@@ -1,0 +1,33 @@
+-- `decoder::conceal` meets its contract: its parts, which the calls give.
+use Prim.Native.Nat.{_<_}
+use lib.Signed.{mag}
+use denote.Ref.{now}
+use mir.Syntax.{w16}
+use Rattle.laws.specs.Back.{via}
+use Rattle.decoder.specs.Parts.{conceal-parts}
+use borrow.Author.Needs.{needs}
+use Rattle.decoder.proofs.conceal.Statement.{statement}
+use Rattle.decoder.proofs.conceal.Tie as tie
+
+known : (c : tie.Start) → (mag (c .args .p .seed) < 32768) × ((mag (c .args .p .beta) < 32768) × (mag (c .args .p .predictor) < 32768))
+known c = search needs
+
+drawn : (c : tie.After-draw) → mag (c .draw .result .second .seed) < 32768
+drawn c = search needs
+
+returns : tie.Need-returns
+returns c =
+    let s = c .before .before .before .before .before .before .before .before .before .before .before .before in
+    let k = known s in
+    rw (c .to-decoded .ensures, c .before .before .before .before .concealed-codes .ensures, c .before .before .before .before .before .before .concealed-delays .ensures, c .before .before .before .before .before .before .before .concealed-spectrum .ensures, via w16 (c .before .before .before .before .before .before .before .before .before .before .draw .result .second .seed) (drawn (c .before .before .before .before .before .before .before .before .before .before)), c .before .before .before .before .before .before .before .before .before .before .draw .ensures, via w16 (s .args .p .seed) (k .0), via w16 (s .args .p .beta) (k .1 .0), via w16 (s .args .p .predictor) (k .1 .1), conceal-parts (now (s .args .t)) (s .args .p))
+
+pub conceal-spec : {M : Type 1} → statement M
+conceal-spec =
+    tie.close
+    (tie.spec
+    (λ c κs. search needs)
+    (λ c κs. search needs)
+    (λ c κs. search needs)
+    (λ c κs. search needs)
+    (λ c κs. search needs)
+    returns)

@@ -1,0 +1,40 @@
+-- `decoder::frame` meets its contract: a refusal by its number, else the frame, of which both parts are written.
+use mathlib.Core.Path.{_∙_}
+use denote.Ref.{now}
+use lib.ListN.{length}
+use Rattle.decoder.specs.Parts.{refused, accepted, done}
+use borrow.Author.Needs.{needs}
+use Rattle.decoder.proofs.frame.Statement.{statement}
+use Rattle.decoder.proofs.frame.Tie as tie
+
+returns : tie.Need-returns
+returns c =
+    let a = c .before .before .before .before .args in
+    refused (now (a .t)) (now (a .b)) (a .kind) (now (a .payload)) (now (a .out)) (c .before .refusal .ensures) (c .if1 .taken)
+
+copy-samples-requires : tie.Need-copy-samples-requires
+copy-samples-requires c κs =
+    let a = c .before .before .before .before .before .before .before .before .before .before .before .before .before .before .args in
+    (search needs, accepted (now (a .t)) (now (a .b)) (a .kind) (now (a .payload)) (now (a .out)) (c .before .before .before .before .before .before .before .before .before .before .before .refusal .ensures) (c .before .before .before .before .before .before .before .before .before .before .if1 .left) .1)
+
+returns-2 : tie.Need-returns-2
+returns-2 c =
+    let a = c .before .before .before .before .before .before .before .before .before .before .before .before .before .before .before .before .args in
+    let f = c .before .before .before .before .before .before .before .before .before .decode .ensures in
+    done (now (a .t)) (now (a .b)) (a .kind) (now (a .payload)) (now (a .out)) (c .before .before .before .before .before .before .before .before .before .before .before .before .before .refusal .ensures) (c .before .before .before .before .before .before .before .before .before .before .before .before .if1 .left) (c .before .before .before .before .before .before .before .before .before .before .before .decide .ensures) (f .0) (c .before .copy-samples .ensures ∙ f .1) (c .before .before .before .before .before .copy-block .ensures)
+
+pub frame-spec : {M : Type 1} → statement M
+frame-spec =
+    tie.close
+    (tie.spec
+    (λ c κs. search needs)
+    (λ c. search needs)
+    returns
+    (λ c κs. search needs)
+    (λ c κs. search needs)
+    (λ c κs. search needs)
+    (λ c. search needs)
+    copy-samples-requires
+    (λ c. search needs)
+    (λ c. search needs)
+    returns-2)

@@ -1,0 +1,12 @@
+-- `decoder::next_params` meets its contract: field by field.
+use Rattle.decoder.specs.Parts.{next-params}
+use borrow.Author.Needs.{needs}
+use Rattle.decoder.proofs.next_params.Statement.{statement}
+use Rattle.decoder.proofs.next_params.Tie as tie
+
+returns : tie.Need-returns
+unfolding next-params
+returns c = search needs
+
+pub next-params-spec : {M : Type 1} → statement M
+next-params-spec = tie.close (tie.spec returns)

@@ -1,0 +1,29 @@
+-- `decoder::refusal` meets its contract: each number is returned where it is not 0.
+use borrow.Author.Tests.{eq-eqb, ne-eqb}
+use Rattle.decoder.specs.Call.{refusal}
+use borrow.Author.Needs.{needs}
+use Rattle.decoder.proofs.refusal.Statement.{statement}
+use Rattle.decoder.proofs.refusal.Tie as tie
+
+returns : tie.Need-returns
+unfolding refusal
+returns c = rw (← c .before .table-check .ensures, ne-eqb _ _ (c .if1 .taken))
+
+returns-2 : tie.Need-returns-2
+unfolding refusal
+returns-2 c = rw (← c .before .before .before .table-check .ensures, eq-eqb _ _ (c .before .before .if1 .left), ← c .before .state-check .ensures, ne-eqb _ _ (c .if2 .taken))
+
+returns-3 : tie.Need-returns-3
+unfolding refusal
+returns-3 c = rw (← c .before .before .before .before .table-check .ensures, eq-eqb _ _ (c .before .before .before .if1 .left), ← c .before .before .state-check .ensures, eq-eqb _ _ (c .before .if2 .left), c .input-check .ensures)
+
+pub refusal-spec : {M : Type 1} → statement M
+refusal-spec =
+    tie.close
+    (tie.spec
+    (λ c κs. search needs)
+    returns
+    (λ c κs. search needs)
+    returns-2
+    (λ c κs. search needs)
+    returns-3)

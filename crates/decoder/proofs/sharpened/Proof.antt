@@ -1,0 +1,20 @@
+-- `decoder::sharpened` meets its contract: the calls, one after the other.
+use Prim.Native.Nat.{_<_}
+use lib.Signed.{mag}
+use mir.Syntax.{w16}
+use Rattle.laws.specs.Back.{came, via}
+use mir.Facts.{toZ-ofZ}
+use Rattle.decoder.specs.Frame.{sharpened}
+use borrow.Author.Needs.{needs}
+use Rattle.decoder.proofs.sharpened.Statement.{statement}
+use Rattle.decoder.proofs.sharpened.Tie as tie
+
+known : (c : tie.Start) → mag (c .args .delay .integer) < 32768
+known c = search needs
+
+returns : tie.Need-returns
+unfolding sharpened
+returns c = cc (came w16 (c .before .before .before .scalars), via w16 (c .before .before .before .before .args .delay .integer) (known (c .before .before .before .before)), toZ-ofZ (c .before .before .before .before .fits .beta))
+
+pub sharpened-spec : {M : Type 1} → statement M
+sharpened-spec = tie.close (tie.spec (λ c κs. search needs) (λ c κs. search needs) (λ c κs. search needs) returns)

@@ -1,0 +1,13 @@
+-- `decoder::to_decoded` meets its contract: the calls, one after the other.
+use mir.Facts.{toZ-ofZ}
+use Rattle.decoder.specs.Parts.{to-decoded}
+use borrow.Author.Needs.{needs}
+use Rattle.decoder.proofs.to_decoded.Statement.{statement}
+use Rattle.decoder.proofs.to_decoded.Tie as tie
+
+returns : tie.Need-returns
+unfolding to-decoded
+returns c = rw (c .next-params .ensures, c .before .to-subframe2 .ensures, c .before .before .to-subframe .ensures, toZ-ofZ (c .before .before .before .before .before .before .before .before .before .before .before .before .before .before .before .before .fits .predictor), toZ-ofZ (c .before .before .before .before .before .before .before .before .before .before .before .before .before .before .before .before .fits .seed))
+
+pub to-decoded-spec : {M : Type 1} → statement M
+to-decoded-spec = tie.close (tie.spec (λ c κs. search needs) (λ c κs. search needs) (λ c κs. search needs) returns)
