@@ -17,9 +17,13 @@ drawn c = search needs
 
 returns : tie.Need-returns
 returns c =
-    let s = c .before .before .before .before .before .before .before .before .before .before .before .before in
+    let k₀ = c .before .before .before .before in
+    let k₁ = k₀ .before .before in
+    let k₂ = k₁ .before in
+    let k₃ = k₂ .before .before .before in
+    let s = k₃ .before .before in
     let k = known s in
-    rw (c .to-decoded .ensures, c .before .before .before .before .concealed-codes .ensures, c .before .before .before .before .before .before .concealed-delays .ensures, c .before .before .before .before .before .before .before .concealed-spectrum .ensures, via w16 (c .before .before .before .before .before .before .before .before .before .before .draw .result .second .seed) (drawn (c .before .before .before .before .before .before .before .before .before .before)), c .before .before .before .before .before .before .before .before .before .before .draw .ensures, via w16 (s .args .p .seed) (k .0), via w16 (s .args .p .beta) (k .1 .0), via w16 (s .args .p .predictor) (k .1 .1), conceal-parts (now (s .args .t)) (s .args .p))
+    rw (c .to-decoded .ensures, k₀ .concealed-codes .ensures, k₁ .concealed-delays .ensures, k₂ .concealed-spectrum .ensures, via w16 (k₃ .draw .result .second .seed) (drawn k₃), k₃ .draw .ensures, via w16 (s .args .p .seed) (k .0), via w16 (s .args .p .beta) (k .1 .0), via w16 (s .args .p .predictor) (k .1 .1), conceal-parts (now (s .args .t)) (s .args .p))
 
 pub conceal-spec : {M : Type 1} → statement M
 conceal-spec =

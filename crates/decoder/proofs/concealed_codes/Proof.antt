@@ -15,7 +15,13 @@ left c = search needs
 returns : tie.Need-returns
 unfolding concealed-codes
 returns c =
-    rw (c .coded2 .ensures, c .before .conceal2 .ensures, c .before .before .sharpened2 .ensures, via w16 _ (left (c .before .before .before .before .before)), c .before .before .before .before .before .coded .ensures, c .before .before .before .before .before .before .conceal .ensures, c .before .before .before .before .before .before .before .sharpened .ensures, toZ-ofZ (c .before .before .before .before .before .before .before .before .before .before .before .before .before .before .fits .beta))
+    let k₀ = c .before in
+    let k₁ = k₀ .before in
+    let k₂ = k₁ .before .before .before in
+    let k₃ = k₂ .before in
+    let k₄ = k₃ .before in
+    let s = k₄ .before .before .before .before .before .before .before in
+    rw (c .coded2 .ensures, k₀ .conceal2 .ensures, k₁ .sharpened2 .ensures, via w16 _ (left k₂), k₂ .coded .ensures, k₃ .conceal .ensures, k₄ .sharpened .ensures, toZ-ofZ (s .fits .beta))
 
 pub concealed-codes-spec : {M : Type 1} → statement M
 concealed-codes-spec =

@@ -13,7 +13,9 @@ known c = search needs
 
 returns : tie.Need-returns
 unfolding concealed-spectrum
-returns c = cc (via w16 (c .before .before .before .before .before .before .args .p .predictor) (known (c .before .before .before .before .before .before)))
+returns c =
+    let s = c .before .before .before .before .before .before in
+    cc (via w16 (s .args .p .predictor) (known s))
 
 pub concealed-spectrum-spec : {M : Type 1} → statement M
 concealed-spectrum-spec = tie.close (tie.spec (λ c κs. search needs) (λ c κs. search needs) (λ c κs. search needs) returns)

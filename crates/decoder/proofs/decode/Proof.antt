@@ -7,13 +7,19 @@ use Rattle.decoder.proofs.decode.Tie as tie
 
 returns : tie.Need-returns
 returns c =
-    let a = c .before .before .before .before .before .before .before .before .before .before .before .args in
-    let p = c .before .before .before .before .before .before .before .before .before .before .read-params .ensures in
-    let v = c .before .before .before .before .before .before .before .before .before .parameters .ensures in
-    let e = c .before .before .before .before .before .before .before .before .read-exc .ensures in
-    let s = c .before .before .before .before .before .before .before .read-speech .ensures in
-    let f = c .before .before .before .before .frame-signal .ensures in
-    (block-is (now (a .t)) (a .d) (now (a .b)) p v e s f (c .write-block .ensures), samples-are (now (a .t)) (a .d) (now (a .b)) p v e s f)
+    let k₀ = c .before .before .before .before in
+    let k₁ = k₀ .before .before .before in
+    let k₂ = k₁ .before in
+    let k₃ = k₂ .before in
+    let k₄ = k₃ .before in
+    let s = k₄ .before in
+    let a = s .args in
+    let p = k₄ .read-params .ensures in
+    let v = k₃ .parameters .ensures in
+    let x = k₂ .read-exc .ensures in
+    let y = k₁ .read-speech .ensures in
+    let f = k₀ .frame-signal .ensures in
+    (block-is (now (a .t)) (a .d) (now (a .b)) p v x y f (c .write-block .ensures), samples-are (now (a .t)) (a .d) (now (a .b)) p v x y f)
 
 pub decode-spec : {M : Type 1} → statement M
 decode-spec =

@@ -1,7 +1,6 @@
 -- `decoder::frame` meets its contract: a refusal by its number, else the frame, of which both parts are written.
 use mathlib.Core.Path.{_∙_}
 use denote.Ref.{now}
-use lib.ListN.{length}
 use Rattle.decoder.specs.Parts.{refused, accepted, done}
 use borrow.Author.Needs.{needs}
 use Rattle.decoder.proofs.frame.Statement.{statement}
@@ -19,9 +18,16 @@ copy-samples-requires c κs =
 
 returns-2 : tie.Need-returns-2
 returns-2 c =
-    let a = c .before .before .before .before .before .before .before .before .before .before .before .before .before .before .before .before .args in
-    let f = c .before .before .before .before .before .before .before .before .before .decode .ensures in
-    done (now (a .t)) (now (a .b)) (a .kind) (now (a .payload)) (now (a .out)) (c .before .before .before .before .before .before .before .before .before .before .before .before .before .refusal .ensures) (c .before .before .before .before .before .before .before .before .before .before .before .before .if1 .left) (c .before .before .before .before .before .before .before .before .before .before .before .decide .ensures) (f .0) (c .before .copy-samples .ensures ∙ f .1) (c .before .before .before .before .before .copy-block .ensures)
+    let k₀ = c .before in
+    let k₁ = k₀ .before .before .before .before in
+    let k₂ = k₁ .before .before .before .before in
+    let k₃ = k₂ .before .before in
+    let k₄ = k₃ .before in
+    let k₅ = k₄ .before in
+    let s = k₅ .before .before .before in
+    let a = s .args in
+    let f = k₂ .decode .ensures in
+    done (now (a .t)) (now (a .b)) (a .kind) (now (a .payload)) (now (a .out)) (k₅ .refusal .ensures) (k₄ .if1 .left) (k₃ .decide .ensures) (f .0) (k₀ .copy-samples .ensures ∙ f .1) (k₁ .copy-block .ensures)
 
 pub frame-spec : {M : Type 1} → statement M
 frame-spec =

@@ -1,5 +1,4 @@
 -- `decoder::frame_signal` meets its contract: the second subframe is given what the first has left.
-use mathlib.Core.Path.{_∙_}
 use borrow.Author.Needs.{needs}
 use Rattle.decoder.proofs.frame_signal.Statement.{statement}
 use Rattle.decoder.proofs.frame_signal.Tie as tie

@@ -15,7 +15,12 @@ returns-2 c = rw (← c .before .before .before .table-check .ensures, eq-eqb _ 
 
 returns-3 : tie.Need-returns-3
 unfolding refusal
-returns-3 c = rw (← c .before .before .before .before .table-check .ensures, eq-eqb _ _ (c .before .before .before .if1 .left), ← c .before .before .state-check .ensures, eq-eqb _ _ (c .before .if2 .left), c .input-check .ensures)
+returns-3 c =
+    let k₀ = c .before in
+    let k₁ = k₀ .before in
+    let k₂ = k₁ .before in
+    let k₃ = k₂ .before in
+    rw (← k₃ .table-check .ensures, eq-eqb _ _ (k₂ .if1 .left), ← k₁ .state-check .ensures, eq-eqb _ _ (k₀ .if2 .left), c .input-check .ensures)
 
 pub refusal-spec : {M : Type 1} → statement M
 refusal-spec =

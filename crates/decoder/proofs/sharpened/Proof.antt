@@ -14,7 +14,10 @@ known c = search needs
 
 returns : tie.Need-returns
 unfolding sharpened
-returns c = cc (came w16 (c .before .before .before .scalars), via w16 (c .before .before .before .before .args .delay .integer) (known (c .before .before .before .before)), toZ-ofZ (c .before .before .before .before .fits .beta))
+returns c =
+    let k₀ = c .before .before .before in
+    let s = k₀ .before in
+    cc (came w16 (k₀ .scalars), via w16 (s .args .delay .integer) (known s), toZ-ofZ (s .fits .beta))
 
 pub sharpened-spec : {M : Type 1} → statement M
 sharpened-spec = tie.close (tie.spec (λ c κs. search needs) (λ c κs. search needs) (λ c κs. search needs) returns)

@@ -14,10 +14,13 @@ known c = (search needs, (search needs, (search needs, search needs)))
 returns : tie.Need-returns
 unfolding subframe-signal
 returns c =
-    let s = c .before .before .before .before .before .before .before .before .before .before .before .before .before .before .before .before .before .before in
+    let k₀ = c .before .before .before .before in
+    let k₁ = k₀ .before .before .before .before .before in
+    let k₂ = k₁ .before .before .before .before .before .before .before .before in
+    let s = k₂ .before in
     let v = s .args .v in
     let k = known s in
-    rw (c .reconstruct .ensures .0, c .reconstruct .ensures .1, c .before .before .before .before .excitation .ensures, c .before .before .before .before .before .before .before .before .before .adaptive-vector .ensures, c .before .before .before .before .before .before .before .before .before .before .before .before .before .before .before .before .before .b30 .ensures, via w16 (v .delay .integer) (k .0), via w16 (v .delay .fraction) (k .1 .0), via w16 (v .gp) (k .1 .1 .0), via w16 (v .gc) (k .1 .1 .1))
+    rw (c .reconstruct .ensures .0, c .reconstruct .ensures .1, k₀ .excitation .ensures, k₁ .adaptive-vector .ensures, k₂ .b30 .ensures, via w16 (v .delay .integer) (k .0), via w16 (v .delay .fraction) (k .1 .0), via w16 (v .gp) (k .1 .1 .0), via w16 (v .gc) (k .1 .1 .1))
 
 pub subframe-signal-spec : {M : Type 1} → statement M
 subframe-signal-spec =

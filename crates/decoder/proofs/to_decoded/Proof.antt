@@ -7,7 +7,11 @@ use Rattle.decoder.proofs.to_decoded.Tie as tie
 
 returns : tie.Need-returns
 unfolding to-decoded
-returns c = rw (c .next-params .ensures, c .before .to-subframe2 .ensures, c .before .before .to-subframe .ensures, toZ-ofZ (c .before .before .before .before .before .before .before .before .before .before .before .before .before .before .before .before .fits .predictor), toZ-ofZ (c .before .before .before .before .before .before .before .before .before .before .before .before .before .before .before .before .fits .seed))
+returns c =
+    let k₀ = c .before in
+    let k₁ = k₀ .before in
+    let s = k₁ .before .before .before .before .before .before .before .before .before .before .before .before .before .before in
+    rw (c .next-params .ensures, k₀ .to-subframe2 .ensures, k₁ .to-subframe .ensures, toZ-ofZ (s .fits .predictor), toZ-ofZ (s .fits .seed))
 
 pub to-decoded-spec : {M : Type 1} → statement M
 to-decoded-spec = tie.close (tie.spec (λ c κs. search needs) (λ c κs. search needs) (λ c κs. search needs) returns)

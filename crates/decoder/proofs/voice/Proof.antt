@@ -1,5 +1,4 @@
 -- `decoder::voice` meets its contract: its parts, which the calls give.
-use mathlib.Core.Path.{sym}
 use Prim.Native.Nat.{ℕ, _%_, _<_}
 use native.Mathlib.Omega.{arith}
 use lib.IntN.{pos}
@@ -20,9 +19,12 @@ bit n = omega arith
 
 returns : tie.Need-returns
 returns c =
-    let s = c .before .before .before .before .before .before .before .before .before in
+    let k₀ = c .before .before .before in
+    let k₁ = k₀ .before .before in
+    let k₂ = k₁ .before in
+    let s = k₂ .before .before .before in
     let k = known s in
-    rw (c .to-decoded .ensures, c .before .before .before .voice-codes .ensures, c .before .before .before .before .before .voice-delays .ensures, c .before .before .before .before .before .before .voice-spectrum .ensures, via w16 (s .args .p .seed) (k .0), via w16 (s .args .p .beta) (k .1), via w16 (pos (s .args .f .l0 % 2)) (bit (s .args .f .l0)), voice-parts (now (s .args .t)) (s .args .f) (s .args .p))
+    rw (c .to-decoded .ensures, k₀ .voice-codes .ensures, k₁ .voice-delays .ensures, k₂ .voice-spectrum .ensures, via w16 (s .args .p .seed) (k .0), via w16 (s .args .p .beta) (k .1), via w16 (pos (s .args .f .l0 % 2)) (bit (s .args .f .l0)), voice-parts (now (s .args .t)) (s .args .f) (s .args .p))
 
 pub voice-spec : {M : Type 1} → statement M
 voice-spec =

@@ -1,0 +1,2 @@
+-- The definitions that the contracts of `count` cite.
+pub mod Count

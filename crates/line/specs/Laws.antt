@@ -1,0 +1,344 @@
+-- Laws of the call text: what Line takes is the text of the payload that it writes, and every such text is taken. Assumes nothing.
+use mathlib.Core.Path.{_≡_, refl, ap, sym, _∙_}
+use mathlib.Core.Bool.{Bool, true, false, cond}
+use mathlib.Core.List.{List, [], _∷_, _++_, append-assoc}
+use Prim.Native.Nat.{ℕ, zero, suc, _+_, _-_, _*_, _/_, _%_, _≤_, _<_}
+use native.Mathlib.Omega.{arith}
+use native.Mathlib.Numerals.{add-one}
+use lib.Dec.{eqb, ltb}
+use lib.ListN.{length, getD, take, drop, set, length-append, length-take, length-drop, take-append-drop}
+use lib.Seq.{getD-drop, take-suc, drop-cons, set-at, append-snoc, take-at, drop-at, drop-drop, take-all, take-length, getD-take}
+use borrow.Author.Tests.{ltb-true, ltb-false, lt-ltb, le-ltb, eq-eqb, ne-eqb, eqb-true, eqb-false}
+use Rattle.line.specs.Line.{digit, hex, opening, closing, form, text, size, value, bytes, same, is-form, is, payload, Answer, answer, took, line}
+
+-- ---- digits
+
+-- a digit is 0-9 or a-f
+unfoldable pub is-digit : ℕ → Bool
+is-digit b = cond (ltb b 48) false (cond (ltb b 58) true (cond (ltb b 97) false (ltb b 103)))
+
+unfoldable pub all-digits : List ℕ → Bool
+all-digits [] = true
+all-digits (b ∷ l) = cond (is-digit b) (all-digits l) false
+
+pub value-lt : (b : ℕ) → value b < 16
+unfolding value
+value-lt b = by (ltb b 48) (ltb b 58) (ltb b 97) (ltb b 103) refl refl refl refl
+  where
+    by : (p q r s : Bool) → ltb b 48 ≡ p → ltb b 58 ≡ q → ltb b 97 ≡ r → ltb b 103 ≡ s → cond p 0 (cond q (b - 48) (cond r 0 (cond s (b - 87) 0))) < 16
+    by true q r s e f g h = omega arith
+    by false true r s e f g h = let k : b < 58 = ltb-true _ _ f in omega arith
+    by false false true s e f g h = omega arith
+    by false false false true e f g h = let k : b < 103 = ltb-true _ _ h in omega arith
+    by false false false false e f g h = omega arith
+
+-- a byte is a digit where it is the digit of its value
+digit-is : (b : ℕ) → eqb b (digit (value b)) ≡ is-digit b
+unfolding digit value is-digit
+digit-is b = by (ltb b 48) (ltb b 58) (ltb b 97) (ltb b 103) refl refl refl refl
+  where
+    by : (p q r s : Bool) → ltb b 48 ≡ p → ltb b 58 ≡ q → ltb b 97 ≡ r → ltb b 103 ≡ s
+        → eqb b (digit (cond p 0 (cond q (b - 48) (cond r 0 (cond s (b - 87) 0))))) ≡ cond p false (cond q true (cond r false s))
+    by true q r s e f g h = let k : b < 48 = ltb-true _ _ e in ne-eqb b 48 (λ z. omega arith)
+    by false true r s e f g h =
+        let k : 48 ≤ b = ltb-false _ _ e in
+        let j : b < 58 = ltb-true _ _ f in
+        rw (lt-ltb (b - 48) 10 (omega arith)) (eq-eqb b (48 + (b - 48)) (omega arith))
+    by false false true s e f g h = let k : 58 ≤ b = ltb-false _ _ f in ne-eqb b 48 (λ z. omega arith)
+    by false false false true e f g h =
+        let k : 97 ≤ b = ltb-false b 97 g in
+        rw (le-ltb (b - 87) 10 (omega arith)) (eq-eqb b (87 + (b - 87)) (omega arith))
+    by false false false false e f g h = let k : 103 ≤ b = ltb-false _ _ h in ne-eqb b 48 (λ z. omega arith)
+
+value-digit : (v : ℕ) → v < 16 → value (digit v) ≡ v
+unfolding digit value
+value-digit v k = by (ltb v 10) refl
+  where
+    by : (p : Bool) → ltb v 10 ≡ p → value (cond p (48 + v) (87 + v)) ≡ v
+    by true e = let j : v < 10 = ltb-true _ _ e in rw (le-ltb (48 + v) 48 (omega arith), lt-ltb (48 + v) 58 (omega arith)) (omega arith)
+    by false e =
+        let j : 10 ≤ v = ltb-false _ _ e in
+        rw (le-ltb (87 + v) 48 (omega arith), le-ltb (87 + v) 58 (omega arith), le-ltb (87 + v) 97 (omega arith), lt-ltb (87 + v) 103 (omega arith)) (omega arith)
+
+high : (x y : ℕ) → y < 16 → (16 * x + y) / 16 ≡ x
+high x y h = omega arith
+
+low : (x y : ℕ) → y < 16 → (16 * x + y) % 16 ≡ y
+low x y h = omega arith
+
+-- ---- the test of two lists
+
+same-self : (l : List ℕ) → same l l ≡ true
+unfolding same
+same-self [] = refl
+same-self (a ∷ l) = rw (eq-eqb a a refl) (same-self l)
+
+pub same-true : (l m : List ℕ) → same l m ≡ true → l ≡ m
+unfolding same
+same-true [] [] e = refl
+same-true [] (b ∷ m) e = let z : _≡_ {A = Bool} false true = e in cc
+same-true (a ∷ l) [] e = let z : _≡_ {A = Bool} false true = e in cc
+same-true (a ∷ l) (b ∷ m) e = by (eqb a b) refl e (same-true l m)
+  where
+    by : (t : Bool) → eqb a b ≡ t → cond t (same l m) false ≡ true → (same l m ≡ true → l ≡ m) → a ∷ l ≡ b ∷ m
+    by true g e h = let p : l ≡ m = h e in let q : a ≡ b = eqb-true a b g in cc
+    by false g e h = let z : _≡_ {A = Bool} false true = e in cc
+
+not-same : (l m : List ℕ) → (l ≡ m → ⊥) → same l m ≡ false
+not-same l m n = by (same l m) refl
+  where
+    by : (t : Bool) → same l m ≡ t → t ≡ false
+    by true e = absurd (n (same-true l m e))
+    by false e = refl
+
+-- they differ at a place
+differ : (l m : List ℕ) (i : ℕ) → (getD l i 0 ≡ getD m i 0 → ⊥) → same l m ≡ false
+differ l m i h = not-same l m (λ e. h (rw e))
+
+-- they differ in length
+unlike : (l m : List ℕ) → (length l ≡ length m → ⊥) → same l m ≡ false
+unlike l m h = not-same l m (λ e. h (rw e))
+
+both : (p q r : Bool) → cond p (cond q r false) false ≡ cond (cond p q false) r false
+both true q r = refl
+both false q r = refl
+
+-- a part at a time
+same-parts : (a b c d : List ℕ) → length a ≡ length c → same (a ++ b) (c ++ d) ≡ cond (same a c) (same b d) false
+unfolding same
+same-parts [] b [] d h = refl
+same-parts [] b (y ∷ c) d h = absurd (omega arith)
+same-parts (x ∷ a) b [] d h = absurd (omega arith)
+same-parts (x ∷ a) b (y ∷ c) d h = rw (same-parts a b c d (omega arith)) (both (eqb x y) (same a c) (same b d))
+
+-- ---- a line of a form, by its parts
+
+twice : (n : ℕ) → 2 * suc n ≡ suc (suc (2 * n))
+twice n = omega arith
+
+pub length-hex : (l : List ℕ) → length (hex l) ≡ 2 * length l
+unfolding hex
+length-hex [] = refl
+length-hex (b ∷ l) = rw (length-hex l, twice (length l))
+
+pub length-bytes : (n : ℕ) (l : List ℕ) → length (bytes n l) ≡ n
+unfolding bytes
+length-bytes zero l = refl
+length-bytes (suc n) l = rw (length-bytes n (drop 2 l))
+
+pub length-form : (o l : List ℕ) → length (form o l) ≡ length o + (2 * length l + 2)
+unfolding form closing
+length-form o l = simp (length-append, length-hex)
+
+-- read and written again they are the same where they are digits
+digits-all : (n : ℕ) (l : List ℕ) → 2 * n ≤ length l → same (take (2 * n) l) (hex (bytes n l)) ≡ all-digits (take (2 * n) l)
+unfolding same hex bytes all-digits
+digits-all zero l h = refl
+digits-all (suc n) [] h = absurd (omega arith)
+digits-all (suc n) (a ∷ []) h = absurd (omega arith)
+digits-all (suc n) (a ∷ b ∷ l) h = rw (twice n, high (value a) (value b) (value-lt b), low (value a) (value b) (value-lt b), digit-is a, digit-is b, digits-all n l (omega arith))
+
+pub by-parts : (o l : List ℕ) (n : ℕ) → length l ≡ length o + 2 * n + 2
+    → is-form o n l ≡ cond (same (take (length o) l) o) (cond (all-digits (take (2 * n) (drop (length o) l))) (same (drop (length o + 2 * n) l) closing) false) false
+unfolding is-form form
+by-parts o l n h =
+    let d : List ℕ = drop (length o) l in
+    let b : List ℕ = bytes n d in
+    let ld : length d ≡ 2 * n + 2 = length-drop (length o) l ∙ omega arith in
+    let lb : length (hex b) ≡ 2 * n = length-hex b ∙ rw (length-bytes n d) in
+    let lt : length (take (length o) l) ≡ length o = length-take (length o) l ∙ omega arith in
+    let le : length (take (2 * n) d) ≡ length (hex b) = length-take (2 * n) d ∙ omega arith in
+    let s1 : same l (o ++ (hex b ++ closing)) ≡ cond (same (take (length o) l) o) (same d (hex b ++ closing)) false =
+    ap (λ (x : List ℕ). same x (o ++ (hex b ++ closing))) (sym (take-append-drop (length o) l)) ∙ same-parts (take (length o) l) d o (hex b ++ closing) lt in
+    let s2 : same d (hex b ++ closing) ≡ cond (same (take (2 * n) d) (hex b)) (same (drop (2 * n) d) closing) false =
+    ap (λ (x : List ℕ). same x (hex b ++ closing)) (sym (take-append-drop (2 * n) d)) ∙ same-parts (take (2 * n) d) (drop (2 * n) d) (hex b) closing le in
+    s1 ∙ rw (s2, digits-all n d (omega arith), drop-drop (2 * n) (length o) l)
+
+-- what each test of the code says of the form
+module _ (o l : List ℕ) (n : ℕ) (h : length l ≡ length o + 2 * n + 2) {r : Bool} (e : r ≡ same (take (length o) l) o) where
+  pub no-opening : r ≡ false → is-form o n l ≡ false
+  no-opening a = by-parts o l n h ∙ rw (← e, a)
+
+  pub no-digits : {q : Bool} → r ≡ true → q ≡ all-digits (take (2 * n) (drop (length o) l)) → q ≡ false → is-form o n l ≡ false
+  no-digits a f b = by-parts o l n h ∙ rw (← e, a, ← f, b)
+
+  pub ending : {q x : Bool} → r ≡ true → q ≡ all-digits (take (2 * n) (drop (length o) l)) → q ≡ true → x ≡ same (take 2 (drop (length o + 2 * n) l)) (41 ∷ 41 ∷ [])
+      → x ≡ is-form o n l
+  unfolding closing
+  ending a f b g =
+      let k : length (drop (length o + 2 * n) l) ≤ 2 = simp length-drop (omega arith) in
+      g ∙ rw (take-all 2 (drop (length o + 2 * n) l) k) (sym (by-parts o l n h ∙ rw (← e, a, ← f, b)))
+
+pub form-length : (o l : List ℕ) (n : ℕ) → is-form o n l ≡ true → length l ≡ length o + (2 * n + 2)
+unfolding is-form
+form-length o l n e =
+    let b : List ℕ = bytes n (drop (length o) l) in
+    ap length (same-true l (form o b) e) ∙ length-form o b ∙ rw (length-bytes n (drop (length o) l))
+
+pub other-length : (o l : List ℕ) (n : ℕ) → (length l ≡ length o + 2 * n + 2 → ⊥) → is-form o n l ≡ false
+unfolding is-form
+other-length o l n h =
+    let b : List ℕ = bytes n (drop (length o) l) in
+    unlike l (form o b) (λ e. h (e ∙ length-form o b ∙ rw (length-bytes n (drop (length o) l)) (omega arith)))
+
+-- ---- the loops: bytes compared, digits tested, and bytes written, from the front
+
+module _ (t p : List ℕ) (from i : ℕ) where
+  pub match-more : from + length p ≤ length t → i < length p → take i (drop from t) ≡ take i p → getD t (from + i) 0 ≡ getD p i 0
+      → take (i + 1) (drop from t) ≡ take (i + 1) p
+  match-more h k e g =
+      let d : i < length (drop from t) = simp length-drop (omega arith) in
+      rw (add-one, take-suc (drop from t) i 0 d, take-suc p i 0 k, e, getD-drop from t i 0, g)
+
+  pub match-not : i < length p → (getD t (from + i) 0 ≡ getD p i 0 → ⊥) → same (take (length p) (drop from t)) p ≡ false
+  match-not k n = differ (take (length p) (drop from t)) p i (λ e. n (sym (getD-take (length p) (drop from t) i 0 k ∙ getD-drop from t i 0) ∙ e))
+
+  pub match-end : take i (drop from t) ≡ take i p → i ≡ length p → same (take (length p) (drop from t)) p ≡ true
+  match-end e g = rw (← g, e, g, take-length) (same-self p)
+
+all-parts : (l m : List ℕ) → all-digits (l ++ m) ≡ cond (all-digits l) (all-digits m) false
+unfolding all-digits
+all-parts [] m = refl
+all-parts (a ∷ l) m = rw (all-parts l m) (both (is-digit a) (all-digits l) (all-digits m))
+
+one-more : (l : List ℕ) (n : ℕ) → n < length l → all-digits (take n l) ≡ true → is-digit (getD l n 0) ≡ true → all-digits (take (n + 1) l) ≡ true
+unfolding all-digits
+one-more l n h e g = rw (add-one, take-suc l n 0 h, all-parts, e, g)
+
+no-digit : (l : List ℕ) (i : ℕ) → i < length l → is-digit (getD l i 0) ≡ false → all-digits l ≡ false
+unfolding all-digits
+no-digit [] i h e = absurd (omega arith)
+no-digit (a ∷ l) zero h e = rw e
+no-digit (a ∷ l) (suc i) h e = rw (no-digit l i (omega arith) e) (never (is-digit a))
+  where
+    never : (t : Bool) → cond t false false ≡ false
+    never true = refl
+    never false = refl
+
+module _ (t : List ℕ) (from n i : ℕ) (h : from + n ≤ length t) (k : i < n) where
+  pub digit-more : all-digits (take i (drop from t)) ≡ true → is-digit (getD t (from + i) 0) ≡ true → all-digits (take (i + 1) (drop from t)) ≡ true
+  digit-more e g = one-more (drop from t) i (simp length-drop (omega arith)) e (rw getD-drop g)
+
+  pub digit-not : is-digit (getD t (from + i) 0) ≡ false → all-digits (take n (drop from t)) ≡ false
+  digit-not g =
+      let d : n ≤ length (drop from t) = simp length-drop (omega arith) in
+      no-digit (take n (drop from t)) i (simp length-take (omega arith)) (rw (getD-take n (drop from t) i 0 k, getD-drop) g)
+
+pub none-digits : (l : List ℕ) → all-digits (take 0 l) ≡ true
+unfolding all-digits
+none-digits l = refl
+
+pub digits-end : (l : List ℕ) (i n : ℕ) → all-digits (take i l) ≡ true → i ≡ n → all-digits (take n l) ≡ true
+digits-end l i n e h = rw h at e
+
+bytes-more : (n : ℕ) (l : List ℕ) → bytes (suc n) l ≡ bytes n l ++ ((16 * value (getD l (2 * n) 0) + value (getD l (2 * n + 1) 0)) ∷ [])
+unfolding bytes
+bytes-more zero l = refl
+bytes-more (suc n) l =
+    let e : 2 + 2 * n ≡ 2 * suc n = omega arith in
+    let f : 2 + (2 * n + 1) ≡ 2 * suc n + 1 = omega arith in
+    rw (bytes-more n (drop 2 l), getD-drop 2 l (2 * n) 0, getD-drop 2 l (2 * n + 1) 0, e, f)
+
+pub put-more : (l lent out : List ℕ) (n v : ℕ) → n < length lent → out ≡ bytes n l ++ drop n lent → v ≡ 16 * value (getD l (2 * n) 0) + value (getD l (2 * n + 1) 0)
+    → set out n v ≡ bytes (n + 1) l ++ drop (n + 1) lent
+put-more l lent out n v h e g =
+    rw (e, drop-cons lent n 0 h, set-at (bytes n l) (getD lent n 0) (drop (suc n) lent) v n (length-bytes n l), add-one, bytes-more n l, g)
+    (sym (append-snoc (bytes n l) _ (drop (suc n) lent)))
+
+pub put-none : (l lent : List ℕ) → lent ≡ bytes 0 l ++ drop 0 lent
+unfolding bytes
+put-none l lent = refl
+
+pub put-end : (l lent out : List ℕ) (i n : ℕ) → out ≡ bytes i l ++ drop i lent → i ≡ n → out ≡ bytes n l ++ drop n lent
+put-end l lent out i n e h = rw h at e
+
+-- a byte as the code makes it
+pub pair : (t : List ℕ) (from i a b : ℕ) → a ≡ value (getD t (from + 2 * i) 0) → b ≡ value (getD t (from + (2 * i + 1)) 0)
+    → 16 * a + b ≡ 16 * value (getD (drop from t) (2 * i) 0) + value (getD (drop from t) (2 * i + 1) 0)
+pair t from i a b e f = rw (getD-drop from t (2 * i) 0, getD-drop from t (2 * i + 1) 0, e, f)
+
+-- ---- sound: what is taken is the text of its kind with the bytes written, and the bytes behind those are unchanged
+
+pub record Took (l lent : List ℕ) (kind : ℕ) (left : List ℕ) : Type 0 where
+  pub low : kind ≤ 3
+  pub one-of : l ≡ text kind (take (size kind) left)
+  pub behind : drop (size kind) left ≡ drop (size kind) lent
+
+fits : (k : ℕ) (l lent left : List ℕ) → k ≤ 3 → is k l ≡ true → left ≡ payload k l ++ drop (size k) lent → Took l lent k left
+unfolding is is-form text payload
+fits k l lent left h e g =
+    let n : length (payload k l) ≡ size k = length-bytes (size k) (drop (length (opening k)) l) in
+    record {
+      low = h;
+      one-of = rw (g, take-at (payload k l) (drop (size k) lent) (size k) n) (same-true _ _ e);
+      behind = rw g (drop-at (payload k l) (drop (size k) lent) (size k) n);
+    }
+
+pub sound : (l lent left : List ℕ) (kind : ℕ) → line l lent ≡ answer 0 kind left → Took l lent kind left
+unfolding line took
+sound l lent left kind = by (eqb (length lent) 10) (is 0 l) (is 1 l) (is 2 l) (is 3 l) refl refl refl refl
+  where
+    end : (k : ℕ) → k ≤ 3 → is k l ≡ true → answer 0 k (payload k l ++ drop (size k) lent) ≡ answer 0 kind left → Took l lent kind left
+    end k h e g =
+        let p : k ≡ kind = cc in
+        let q : left ≡ payload k l ++ drop (size k) lent = cc in
+        rw (← p) (fits k l lent left h e q)
+
+    no : (n : ℕ) → 0 < n → answer n 0 lent ≡ answer 0 kind left → Took l lent kind left
+    no n h g = let p : n ≡ 0 = cc in absurd (omega arith)
+
+    by : (t a b c d : Bool) → is 0 l ≡ a → is 1 l ≡ b → is 2 l ≡ c → is 3 l ≡ d
+        → cond t (cond a (took 0 l lent) (cond b (took 1 l lent) (cond c (took 2 l lent) (cond d (took 3 l lent) (answer 9 0 lent))))) (answer 11 0 lent) ≡ answer 0 kind left
+        → Took l lent kind left
+    by false a b c d e f g h k = no 11 (omega arith) k
+    by true true b c d e f g h k = end 0 (omega arith) e k
+    by true false true c d e f g h k = end 1 (omega arith) f k
+    by true false false true d e f g h k = end 2 (omega arith) g k
+    by true false false false true e f g h k = end 3 (omega arith) h k
+    by true false false false false e f g h k = no 9 (omega arith) k
+
+-- ---- complete: the text of each kind with each payload is taken, as that kind and those bytes
+
+hex-back : (l r : List ℕ) → ((i : ℕ) → getD l i 0 < 256) → bytes (length l) (hex l ++ r) ≡ l
+unfolding bytes hex
+hex-back [] r h = refl
+hex-back (b ∷ l) r h =
+    let k : b < 256 = h 0 in
+    let e : value (digit (b / 16)) ≡ b / 16 = value-digit (b / 16) (omega arith) in
+    let f : value (digit (b % 16)) ≡ b % 16 = value-digit (b % 16) (omega arith) in
+    let g : 16 * (b / 16) + b % 16 ≡ b = omega arith in
+    rw (e, f, g, hex-back l r (λ i. h (suc i)))
+
+module _ (k : ℕ) (l : List ℕ) (n : length l ≡ size k) where
+  read-back : ((i : ℕ) → getD l i 0 < 256) → payload k (text k l) ≡ l
+  unfolding payload text form
+  read-back h = rw (drop-at (opening k) (hex l ++ closing) (length (opening k)) refl, ← n) (hex-back l closing h)
+
+  is-text : ((i : ℕ) → getD l i 0 < 256) → is k (text k l) ≡ true
+  unfolding is is-form payload text
+  is-text h = ap (λ (x : List ℕ). same (text k l) (form (opening k) x)) (read-back h) ∙ same-self (text k l)
+
+  not-text : (j : ℕ) → (length (opening k) + 2 * size k ≡ length (opening j) + 2 * size j → ⊥) → is j (text k l) ≡ false
+  unfolding is text
+  not-text j h =
+      other-length (opening j) (text k l) (size j)
+      (λ e. h (let f : length (text k l) ≡ length (opening k) + (2 * length l + 2) = length-form (opening k) l in omega arith))
+
+-- the kinds by number
+by-kind : (P : ℕ → Type 0) → P 0 → P 1 → P 2 → P 3 → (k : ℕ) → k ≤ 3 → P k
+by-kind P a b c d zero h = a
+by-kind P a b c d (suc zero) h = b
+by-kind P a b c d (suc (suc zero)) h = c
+by-kind P a b c d (suc (suc (suc zero))) h = d
+by-kind P a b c d (suc (suc (suc (suc n)))) h = absurd (omega arith)
+
+pub complete : (k : ℕ) → k ≤ 3 → (l lent : List ℕ) → length l ≡ size k → ((i : ℕ) → getD l i 0 < 256) → length lent ≡ 10
+    → line (text k l) lent ≡ answer 0 k (l ++ drop (size k) lent)
+unfolding line took opening size
+complete k h l lent =
+    by-kind (λ (k : ℕ). length l ≡ size k → ((i : ℕ) → getD l i 0 < 256) → length lent ≡ 10 → line (text k l) lent ≡ answer 0 k (l ++ drop (size k) lent))
+    (λ n b e. rw (eq-eqb (length lent) 10 e, is-text 0 l n b, read-back 0 l n b))
+    (λ n b e. rw (eq-eqb (length lent) 10 e, not-text 1 l n 0 (λ z. omega arith), is-text 1 l n b, read-back 1 l n b))
+    (λ n b e. rw (eq-eqb (length lent) 10 e, not-text 2 l n 0 (λ z. omega arith), not-text 2 l n 1 (λ z. omega arith), is-text 2 l n b, read-back 2 l n b))
+    (λ n b e. rw (eq-eqb (length lent) 10 e, not-text 3 l n 0 (λ z. omega arith), not-text 3 l n 1 (λ z. omega arith), not-text 3 l n 2 (λ z. omega arith), is-text 3 l n b, read-back 3 l n b))
+    k h

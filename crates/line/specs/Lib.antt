@@ -1,0 +1,3 @@
+-- The definitions that the contracts of `line` cite, and their laws.
+pub mod Line
+pub mod Laws
