@@ -104,6 +104,7 @@ pub fn calls(out: &mut impl Write, seed: u64, cases: usize, frames: usize) -> Re
             0 => line(out, 'N', &[])?,
             _ => line(out, 'S', &state)?,
         }
+        line(out, 'E', &state)?;
         let call = call_of(&mut rng, frames)?;
         let mut ways = ThreeWays::new(&tables, &state);
         for (n, frame) in call.iter().enumerate() {

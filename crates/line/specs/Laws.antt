@@ -1,15 +1,15 @@
 -- Laws of the call text: what Line takes is the text of the payload that it writes, and every such text is taken. Assumes nothing.
 use mathlib.Core.Path.{_≡_, refl, ap, sym, _∙_}
 use mathlib.Core.Bool.{Bool, true, false, cond}
-use mathlib.Core.List.{List, [], _∷_, _++_, append-assoc}
+use mathlib.Core.List.{List, [], _∷_, _++_}
 use Prim.Native.Nat.{ℕ, zero, suc, _+_, _-_, _*_, _/_, _%_, _≤_, _<_}
 use native.Mathlib.Omega.{arith}
 use native.Mathlib.Numerals.{add-one}
 use lib.Dec.{eqb, ltb}
 use lib.ListN.{length, getD, take, drop, set, length-append, length-take, length-drop, take-append-drop}
 use lib.Seq.{getD-drop, take-suc, drop-cons, set-at, append-snoc, take-at, drop-at, drop-drop, take-all, take-length, getD-take}
-use borrow.Author.Tests.{ltb-true, ltb-false, lt-ltb, le-ltb, eq-eqb, ne-eqb, eqb-true, eqb-false}
-use Rattle.line.specs.Line.{digit, hex, opening, closing, form, text, size, value, bytes, same, is-form, is, payload, Answer, answer, took, line}
+use borrow.Author.Tests.{ltb-true, ltb-false, lt-ltb, le-ltb, eq-eqb, ne-eqb, eqb-true}
+use Rattle.line.specs.Line.{digit, hex, opening, closing, form, text, size, value, bytes, same, is-form, is, payload, answer, took, line}
 
 -- ---- digits
 

@@ -1,7 +1,7 @@
 // Parts of a line's words. A word past the end reads as 0.
 
 // Word `n` behind place `at`.
-pub fn word(words: &[i16], at: usize, n: usize) -> i16 {
+pub(crate) fn word(words: &[i16], at: usize, n: usize) -> i16 {
     if at < words.len() {
         if n < words.len() - at {
             return words[at + n];
@@ -11,12 +11,12 @@ pub fn word(words: &[i16], at: usize, n: usize) -> i16 {
 }
 
 // A word that holds a number without a sign.
-pub fn number(words: &[i16], at: usize) -> u16 {
+pub(crate) fn number(words: &[i16], at: usize) -> u16 {
     basic_op::low16(word(words, at, 0))
 }
 
 // Fills `out` with words.
-pub fn fill(words: &[i16], out: &mut [i16]) {
+pub(crate) fn fill(words: &[i16], out: &mut [i16]) {
     let mut n = 0;
     while n < out.len() {
         out[n] = word(words, 0, n);
@@ -25,7 +25,7 @@ pub fn fill(words: &[i16], out: &mut [i16]) {
 }
 
 // The ten bytes of a frame's payload.
-pub fn payload(frame: &[i16]) -> [u8; 10] {
+pub(crate) fn payload(frame: &[i16]) -> [u8; 10] {
     let mut out = [0u8; 10];
     let mut n = 0;
     while n < 10 {

@@ -98,7 +98,7 @@ fn frame_call(line: &[i16], tally: &mut [u32; 18]) {
 }
 
 // One line of arguments.
-pub fn line(words: &[i16], tally: &mut [u32; 18]) {
+pub(crate) fn line(words: &[i16], tally: &mut [u32; 18]) {
     let t = tables_of(words);
     let payload = [0u8; 16];
     let mut receiver = [0u16; 20];

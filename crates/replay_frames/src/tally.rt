@@ -28,7 +28,7 @@ fn one_more(x: u32) -> u32 {
 }
 
 // Counts a value that differs or not.
-pub fn count(tally: &mut [u32; 18], row: usize, differs: bool)
+pub(crate) fn count(tally: &mut [u32; 18], row: usize, differs: bool)
     requires { ⌜ row < 9 ⌝ }
 {
     tally[2 * row] = one_more(tally[2 * row]);
@@ -38,14 +38,14 @@ pub fn count(tally: &mut [u32; 18], row: usize, differs: bool)
 }
 
 // Compares an answer with the number of a place.
-pub fn answer(tally: &mut [u32; 18], row: usize, words: &[i16], at: usize, found: u32)
+pub(crate) fn answer(tally: &mut [u32; 18], row: usize, words: &[i16], at: usize, found: u32)
     requires { ⌜ row < 9 ⌝ }
 {
     count(tally, row, part::number(words, at) as u32 != found);
 }
 
 // Compares words with those from a place on.
-pub fn words(tally: &mut [u32; 18], row: usize, words: &[i16], at: usize, found: &[i16])
+pub(crate) fn words(tally: &mut [u32; 18], row: usize, words: &[i16], at: usize, found: &[i16])
     requires { ⌜ row < 9 ⌝ }
 {
     let mut n = 0;
@@ -74,7 +74,7 @@ fn print_lines(tally: [u32; 18]) {
     io::write_all(STDOUT_FILENO, b"\n");
 }
 
-pub fn print(tally: [u32; 18]) {
+pub(crate) fn print(tally: [u32; 18]) {
     print_lines(tally);
     print_row(b"answers", tally, ANSWERS);
     print_row(b"whole, samples", tally, WHOLE_SAMPLES);

@@ -117,7 +117,7 @@ fn flags_and_shifts(op: u32, a: u32, b: u32, c: u32) -> Results {
     }
 }
 
-pub fn call(op: u32, a: u32, b: u32, c: u32) -> Results {
+pub(crate) fn call(op: u32, a: u32, b: u32, c: u32) -> Results {
     if op < 14 {
         return basic(op, a, b, c);
     }

@@ -21,7 +21,7 @@ fn digit(b: u8) -> u32
 }
 
 // The number of the `count` digits at `from`; bytes past the end count as 0.
-pub fn field(line: &[u8], from: usize, count: usize) -> u32 {
+pub(crate) fn field(line: &[u8], from: usize, count: usize) -> u32 {
     let mut v: u32 = 0;
     let mut i = 0;
     while i < count {
@@ -36,7 +36,7 @@ pub fn field(line: &[u8], from: usize, count: usize) -> u32 {
 }
 
 // The signed number whose 32 bits are x.
-pub fn signed(x: u32) -> i32 {
+pub(crate) fn signed(x: u32) -> i32 {
     if x < 2147483648 {
         return x as i32;
     }
@@ -44,19 +44,19 @@ pub fn signed(x: u32) -> i32 {
 }
 
 // Its 16 lower bits, as a signed number.
-pub fn word(x: u32) -> i16 {
+pub(crate) fn word(x: u32) -> i16 {
     basic_op::extract_l(signed(x))
 }
 
 // The 32 bits of x.
-pub fn pattern(x: i32) -> u32 {
+pub(crate) fn pattern(x: i32) -> u32 {
     let high = basic_op::low16(basic_op::extract_h(x));
     let low = basic_op::low16(basic_op::extract_l(x));
     high as u32 * 65536 + low as u32
 }
 
 // The 16 bits of x, its sign carried on to 32.
-pub fn sign_extended(x: i16) -> u32 {
+pub(crate) fn sign_extended(x: i16) -> u32 {
     let low = basic_op::low16(x) as u32;
     if low < 32768 { low } else { low + 4294901760 }
 }

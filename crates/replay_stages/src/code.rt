@@ -83,18 +83,18 @@ fn codevectors(t: &[i16], f: &[i16], at: usize, tally: &mut [u32; 46])
     tally::words(tally, tally::SHARPEN, f, at + 44, &sharpened);
 }
 
-pub fn voice(p: SpeechParams, s: &[i16], f: &[i16], tally: &mut [u32; 46]) {
+pub(crate) fn voice(p: SpeechParams, s: &[i16], f: &[i16], tally: &mut [u32; 46]) {
     voice_delays(p, s, f, tally);
     voice_indices(p, s, f, tally);
 }
 
-pub fn concealed(s: &[i16], f: &[i16], tally: &mut [u32; 46]) {
+pub(crate) fn concealed(s: &[i16], f: &[i16], tally: &mut [u32; 46]) {
     concealed_delays(s, f, tally);
     concealed_indices(s, f, tally);
 }
 
 // What is the same in both kinds of frame.
-pub fn both(t: &[i16], f: &[i16], tally: &mut [u32; 46]) {
+pub(crate) fn both(t: &[i16], f: &[i16], tally: &mut [u32; 46]) {
     codevectors(t, f, 89, tally);
     codevectors(t, f, 257, tally);
 }

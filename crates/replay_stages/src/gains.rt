@@ -37,7 +37,7 @@ fn left(f: &[i16], row: usize, found: GainState, tally: &mut [u32; 46])
     tally::word(tally, row, part::word(f, 573, 0), found.gc);
 }
 
-pub fn voice(p: SpeechParams, t: &[i16], s: &[i16], f: &[i16], tally: &mut [u32; 46]) {
+pub(crate) fn voice(p: SpeechParams, t: &[i16], s: &[i16], f: &[i16], tally: &mut [u32; 46]) {
     let first = gain::decode(t, state(s), p.ga1, p.gb1, part::vector(f, 133));
     gains(f, 89, tally::DECODE_GAIN, first, tally);
     let second = gain::decode(t, first, p.ga2, p.gb2, part::vector(f, 301));
@@ -45,7 +45,7 @@ pub fn voice(p: SpeechParams, t: &[i16], s: &[i16], f: &[i16], tally: &mut [u32;
     left(f, tally::DECODE_GAIN, second, tally);
 }
 
-pub fn concealed(t: &[i16], s: &[i16], f: &[i16], tally: &mut [u32; 46]) {
+pub(crate) fn concealed(t: &[i16], s: &[i16], f: &[i16], tally: &mut [u32; 46]) {
     let first = gain::conceal(t, state(s));
     gains(f, 89, tally::CONCEAL_GAIN, first, tally);
     let second = gain::conceal(t, first);
@@ -54,7 +54,7 @@ pub fn concealed(t: &[i16], s: &[i16], f: &[i16], tally: &mut [u32; 46]) {
 }
 
 // The factor that sharpens each subframe is made from the pitch gain of the one before.
-pub fn sharpening(t: &[i16], s: &[i16], f: &[i16], tally: &mut [u32; 46]) {
+pub(crate) fn sharpening(t: &[i16], s: &[i16], f: &[i16], tally: &mut [u32; 46]) {
     tally::word(
         tally,
         tally::CARRIED,

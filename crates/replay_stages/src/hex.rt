@@ -48,7 +48,7 @@ fn word(text: &[u8], n: usize) -> i16 {
 }
 
 // Fills `words` from a text.
-pub fn words(text: &[u8], words: &mut [i16]) {
+pub(crate) fn words(text: &[u8], words: &mut [i16]) {
     let mut n = 0;
     while n < words.len() {
         words[n] = word(text, n);

@@ -111,7 +111,7 @@ fn left(f: &[i16], signal: Signal, tally: &mut [u32; 46]) {
     tally::tail(tally, tally::RECONSTRUCT, f, 729, &speech, 80);
 }
 
-pub fn frame(t: &[i16], s: &[i16], f: &[i16], tally: &mut [u32; 46]) {
+pub(crate) fn frame(t: &[i16], s: &[i16], f: &[i16], tally: &mut [u32; 46]) {
     let before = Signal {
         exc: part::excitation(s),
         speech: part::speech(s),

@@ -5,7 +5,7 @@ use crate::tally;
 use bitstream::SpeechParams;
 
 // The row of a voice frame, and the frequencies that it gives.
-pub fn voice(p: SpeechParams, t: &[i16], s: &[i16], f: &[i16], tally: &mut [u32; 46]) {
+pub(crate) fn voice(p: SpeechParams, t: &[i16], s: &[i16], f: &[i16], tally: &mut [u32; 46]) {
     let row = lsp::new_row(t, p.l1, p.l2, p.l3);
     tally::words(tally, tally::NEW_ROW, f, 27, &row);
     let omega = lsp::decode_lsf(t, p.l0, part::row(f, 27), part::rows(s));
@@ -14,7 +14,7 @@ pub fn voice(p: SpeechParams, t: &[i16], s: &[i16], f: &[i16], tally: &mut [u32;
 }
 
 // The row of a concealed frame, whose frequencies and predictor are the last ones.
-pub fn concealed(t: &[i16], s: &[i16], f: &[i16], tally: &mut [u32; 46]) {
+pub(crate) fn concealed(t: &[i16], s: &[i16], f: &[i16], tally: &mut [u32; 46]) {
     let predictor = part::word(s, 40, 0);
     let omega = part::row(s, 41);
     let row = lsp::erased_row(t, predictor, omega, part::rows(s));
@@ -62,7 +62,7 @@ fn carried(f: &[i16], tally: &mut [u32; 46]) {
 }
 
 // What is the same in both kinds of frame.
-pub fn both(t: &[i16], s: &[i16], f: &[i16], tally: &mut [u32; 46]) {
+pub(crate) fn both(t: &[i16], s: &[i16], f: &[i16], tally: &mut [u32; 46]) {
     past(s, f, tally);
     lsps(t, s, f, tally);
     coefficients(f, tally);

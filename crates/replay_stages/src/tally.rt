@@ -56,7 +56,7 @@ fn one_more(x: u32) -> u32 {
 }
 
 // Counts a value that differs or not.
-pub fn count(tally: &mut [u32; 46], row: usize, differs: bool)
+pub(crate) fn count(tally: &mut [u32; 46], row: usize, differs: bool)
     requires { ⌜ row < 23 ⌝ }
 {
     tally[2 * row] = one_more(tally[2 * row]);
@@ -66,21 +66,21 @@ pub fn count(tally: &mut [u32; 46], row: usize, differs: bool)
 }
 
 // Compares a word.
-pub fn word(tally: &mut [u32; 46], row: usize, expected: i16, found: i16)
+pub(crate) fn word(tally: &mut [u32; 46], row: usize, expected: i16, found: i16)
     requires { ⌜ row < 23 ⌝ }
 {
     count(tally, row, expected != found);
 }
 
 // Compares a number without a sign with the word at a place.
-pub fn number(tally: &mut [u32; 46], row: usize, words: &[i16], at: usize, found: u16)
+pub(crate) fn number(tally: &mut [u32; 46], row: usize, words: &[i16], at: usize, found: u16)
     requires { ⌜ row < 23 ⌝ }
 {
     count(tally, row, part::number(words, at) != found);
 }
 
 // Compares the fields of a frame.
-pub fn fields(tally: &mut [u32; 46], words: &[i16], at: usize, found: [u16; 15])
+pub(crate) fn fields(tally: &mut [u32; 46], words: &[i16], at: usize, found: [u16; 15])
     requires { ⌜ at < 65536 ⌝ }
 {
     let mut n = 0;
@@ -91,7 +91,14 @@ pub fn fields(tally: &mut [u32; 46], words: &[i16], at: usize, found: [u16; 15])
 }
 
 // Compares the words behind the first `skip` with those from a place on.
-pub fn tail(tally: &mut [u32; 46], row: usize, words: &[i16], at: usize, found: &[i16], skip: usize)
+pub(crate) fn tail(
+    tally: &mut [u32; 46],
+    row: usize,
+    words: &[i16],
+    at: usize,
+    found: &[i16],
+    skip: usize,
+)
     requires { ⌜ row < 23 ⌝ }
 {
     let mut n = skip;
@@ -102,7 +109,7 @@ pub fn tail(tally: &mut [u32; 46], row: usize, words: &[i16], at: usize, found: 
 }
 
 // Compares words with those from a place on.
-pub fn words(tally: &mut [u32; 46], row: usize, words: &[i16], at: usize, found: &[i16])
+pub(crate) fn words(tally: &mut [u32; 46], row: usize, words: &[i16], at: usize, found: &[i16])
     requires { ⌜ row < 23 ⌝ }
 {
     tail(tally, row, words, at, found, 0);
@@ -154,7 +161,7 @@ fn print_code_and_signal(tally: [u32; 46]) {
     print_row(b"carried", tally, CARRIED);
 }
 
-pub fn print(tally: [u32; 46]) {
+pub(crate) fn print(tally: [u32; 46]) {
     print_lines(tally);
     print_parameters(tally);
     print_code_and_signal(tally);

@@ -1,0 +1,3 @@
+-- The definitions that the contracts of `print` cite, and their laws.
+pub mod Print
+pub mod Laws
