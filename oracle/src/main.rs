@@ -14,6 +14,7 @@ mod text;
 
 use g729::bitstream::SpeechParams;
 use g729::harness::{self, StateBlock, TableBlock};
+use g729::tables::formula;
 use g729::{Decoder, stages};
 use program::Job;
 use rng::Rng;
@@ -29,6 +30,7 @@ const USAGE: &str = "usage:
   g729-oracle gen SEED state KIND
   g729-oracle gen SEED call KIND FRAMES [PERCENT]
   g729-oracle fresh TABLES
+  g729-oracle formula
   g729-oracle fields [HEX ...]
   g729-oracle replay SEED CASES FRAMES
   g729-oracle calls SEED CASES FRAMES
@@ -63,6 +65,7 @@ fn dispatch(args: &[&str]) -> Outcome {
             let tables = harness::tables(&read_tables(tables)?);
             write(&blocks::bytes(&harness::save(&Decoder::new(&tables))))
         }
+        ["formula"] => formula(),
         ["fields", ref digits @ ..] => fields(digits),
         ["replay", seed, cases, frames] => {
             let mut out = output();
@@ -109,6 +112,24 @@ fn generate(rng: &mut Rng, what: &[&str]) -> Outcome {
         }
         _ => Err(USAGE.to_string()),
     }
+}
+
+/// Prints the tables by formula that the voice path reads.
+fn formula() -> Outcome {
+    let mut out = output();
+    let tables: [(&str, &[i16]); 6] = [
+        ("lsp-cosine", &formula::LSP_COSINE),
+        ("lsp-cosine-slope", &formula::LSP_COSINE_SLOPE),
+        ("pow2", &formula::POW2),
+        ("gain-prediction-coefficients", &formula::GAIN_PREDICTION_COEFFICIENTS),
+        ("lsp-quantizer-initial-memory", &formula::LSP_QUANTIZER_INITIAL_MEMORY),
+        ("gain-predictor-initial-memory", &formula::GAIN_PREDICTOR_INITIAL_MEMORY),
+    ];
+    for (name, words) in tables {
+        let words: Vec<String> = words.iter().map(i16::to_string).collect();
+        writeln!(out, "{name} {}", words.join(" ")).map_err(io_error)?;
+    }
+    finish(out)
 }
 
 /// Prints the fifteen numbers of each frame, given as digits or else as bytes on standard input.
