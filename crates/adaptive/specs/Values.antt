@@ -1,4 +1,4 @@
--- Values of the definitions, computed.
+-- Values of the definitions, computed (01, "Values to prove").
 use mathlib.Core.Path.{_≡_, refl}
 use mathlib.Core.Bool.{Bool, true}
 use lib.IntN.{ℤ, pos, negsuc}

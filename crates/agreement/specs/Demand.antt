@@ -196,6 +196,7 @@ pub record Differ {A : Type 0} (n : ℕ) (f : FrameValues → A) : Type 0 where
   pub b : List ℤ
   pub real : Real t cs a b
   pub alike : Alike t cs a b
+  -- by `answered` of `Agreement` both have frame n or neither has, so this is a value that differs
   pub differ : only n f (frames cs a) ≢ only n f (frames cs b)
 
 -- ---- demand 3

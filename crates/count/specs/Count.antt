@@ -1,4 +1,4 @@
--- The operation Count. A call has at most 360,000 frames; those of kinds 1 (SID), 2 (no transmission) and 3 (erased) are counted
+-- The operation Count (01, "Operations and their refusals"). A call has at most 360,000 frames; those of kinds 1 (SID), 2 (no transmission) and 3 (erased) are counted
 -- as lost, since all three are concealed.
 use mathlib.Core.Bool.{cond, _||_}
 use Prim.Native.Nat.{ℕ, _+_}

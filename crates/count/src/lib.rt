@@ -1,4 +1,4 @@
-// The counts of a call: its frames, and those of them that are concealed.
+// The operation Count (01): the counts of a call, its frames and those of them that are concealed.
 ghost use mathlib.Core.Path.{_≡_};
 ghost use Rattle.count.specs.Count.{count};
 

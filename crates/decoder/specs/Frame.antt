@@ -69,7 +69,7 @@ voice t f p =
       };
     }
 
--- clause 4.4: a frame that was not: the last LSF again, the carried delay, random pulses, attenuated gains
+-- clause 4.4: a frame that was not received: the last LSF again, the carried delay, random pulses, attenuated gains
 unfoldable pub conceal : List ℤ → Params → Decoded
 conceal t p =
     let l = erased-row t (p .predictor) (p .omega) (past-rows p) in

@@ -1,4 +1,4 @@
-// The frame call (lib.rs of the Rust, up to `reconstruct`): a frame's parameters from the fields or by concealment, then its signal.
+// The frame call (01, Frame; G.729 clauses 4.1 and 4.4; lib.rs of the Rust, up to `reconstruct`): a frame's parameters from the fields or by concealment, then its signal.
 ghost use mathlib.Core.Path.{_≡_};
 ghost use mathlib.Core.Bool.{true, false};
 ghost use lib.ListN.{length, drop};
@@ -288,7 +288,7 @@ pub fn voice(t: &[i16], f: SpeechParams, p: Params) -> Decoded
     to_decoded(p, (f.l0 % 2) as i16, p.seed, s, d, c)
 }
 
-// Clause 4.4: the parameters of a frame that was not.
+// Clause 4.4: the parameters of a frame that was not received.
 pub fn conceal(t: &[i16], p: Params) -> Decoded
     ensures { λ r. ⌜ r ≡ conceal (now (t .entry)) p ⌝ }
 {

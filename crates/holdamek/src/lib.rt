@@ -1,4 +1,4 @@
-// The operations for other languages: C functions over pointers and lengths, each the proved function of its crate and nothing else.
+// Four of 01's operations for other languages: C functions over pointers and lengths, each the proved function of its crate and nothing else.
 // A slice is a pointer and then a length in elements. Each returns 0 or the number of its refusal.
 ghost use mathlib.Core.Path.{_≡_};
 ghost use Rattle.tables.specs.Layout.{table-check};

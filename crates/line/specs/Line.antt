@@ -1,5 +1,5 @@
--- The operation Line: a line of the call text, without its line feed, to a frame's kind and payload. A text is the list of its bytes
--- in ASCII.
+-- The operation Line (01, "The call text and the program"): a line of the call text, without its line feed, to a frame's kind and payload.
+-- A text is the list of its bytes in ASCII.
 use mathlib.Core.Bool.{Bool, true, false, cond}
 use mathlib.Core.List.{List, [], _∷_, _++_}
 use Prim.Native.Nat.{ℕ, zero, suc, _+_, _-_, _*_, _/_, _%_}

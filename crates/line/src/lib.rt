@@ -1,4 +1,4 @@
-// A line of the call text, without its line feed, to a frame's kind and payload.
+// The operation Line (01): a line of the call text, without its line feed, to a frame's kind and payload.
 ghost use mathlib.Core.Path.{_≡_};
 ghost use mathlib.Core.List.{_++_};
 ghost use Prim.Native.Nat.{_+_, _*_, _<_, _≤_};

@@ -1,4 +1,4 @@
--- The table block: 1,880 words that the caller hands in, the values that the Rust takes from the licensed package of ITU-T G.729.
+-- The table block (01, "The table block and the state block"): 1,880 words that the caller hands in, the values that the Rust takes from the licensed package of ITU-T G.729.
 -- Each definition names a part by its place in the block; a word past the end is 0. The comments say what G.729 holds there:
 -- nothing is assumed of the words.
 use mathlib.Core.Path.{_≡_}
