@@ -1,14 +1,14 @@
--- Laws of the printed forms: loops that write from the front, and a printed sample read back. Assumes nothing.
+-- Laws of the printed forms: loops that write from the front, and a printed sample or count read back. Assumes nothing.
 use mathlib.Core.Path.{_≡_, refl, sym, _∙_}
 use mathlib.Core.Bool.{Bool, true, false, cond}
 use mathlib.Core.List.{List, [], _∷_, _++_, append-assoc, append-nil}
-use Prim.Native.Nat.{ℕ, _+_, _-_, _*_, _/_, _%_, _≤_, _<_}
+use Prim.Native.Nat.{ℕ, zero, suc, _+_, _-_, _*_, _/_, _%_, _^_, _≤_, _<_}
 use native.Mathlib.Omega.{arith}
 use native.Mathlib.Numerals.{add-one}
 use native.Mathlib.Nat.{add-zero}
 use lib.Dec.{ltb}
 use lib.IntN.{ℤ, pos, negsuc}
-use lib.ListN.{length, getD, take, set, length-set}
+use lib.ListN.{length, getD, take, set, length-set, length-append}
 use lib.Seq.{take-suc, take-suc-set, take-all, take-length}
 use borrow.Author.Tests.{ltb-true, ltb-false, lt-ltb, le-ltb}
 use lib.Signed.{mag}
@@ -18,7 +18,7 @@ use mir.Facts.{toZ-ofZ}
 use Rattle.basic_op.specs.Ops.{low16}
 use Rattle.basic_op.specs.Low.{low-lt}
 use Rattle.laws.specs.Lists.{at}
-use Rattle.print.specs.Print.{digit, word, words, pcm}
+use Rattle.print.specs.Print.{digit, word, words, pcm, digits, decimal}
 
 -- a part's length by another name
 upto : (l p : List ℕ) (m n : ℕ) → m ≡ n → take m l ≡ p → take n l ≡ p
@@ -113,3 +113,125 @@ low-bits (negsuc n) h = omega arith
 -- the four digits of a sample, read in two's complement, are the sample
 pub sample-back : (z : ℤ) → SFits w16 z → toZ w16 (number (word (low16 z))) ≡ z
 sample-back z f = rw (number-word (low16 z) (low-lt z), low-bits z (f .sfits)) (toZ-ofZ f)
+
+-- ---- decimal digits
+
+digits-none : (n : ℕ) → digits 0 n ≡ []
+unfolding digits
+digits-none n = refl
+
+digits-one : (j n : ℕ) → n < 10 → digits (suc j) n ≡ (48 + n) ∷ []
+unfolding digits
+digits-one j n h = rw (lt-ltb n 10 h)
+
+digits-more : (j n : ℕ) → 10 ≤ n → digits (suc j) n ≡ digits j (n / 10) ++ ((48 + n % 10) ∷ [])
+unfolding digits
+digits-more j n h = rw (le-ltb n 10 h)
+
+-- more than enough is enough
+enough : (j k n : ℕ) → n < j → n < k → digits j n ≡ digits k n
+enough zero k n h i = absurd (omega arith)
+enough (suc j) zero n h i = absurd (omega arith)
+enough (suc j) (suc k) n h i = by (ltb n 10) refl (enough j k (n / 10))
+  where
+    by : (p : Bool) → ltb n 10 ≡ p → (n / 10 < j → n / 10 < k → digits j (n / 10) ≡ digits k (n / 10)) → digits (suc j) n ≡ digits (suc k) n
+    by true e f = let l : n < 10 = ltb-true _ _ e in digits-one j n l ∙ sym (digits-one k n l)
+    by false e f =
+        let l : 10 ≤ n = ltb-false _ _ e in
+        digits-more j n l ∙ rw (f (omega arith) (omega arith)) (sym (digits-more k n l))
+
+pub decimal-one : (n : ℕ) → n < 10 → decimal n ≡ (48 + n) ∷ []
+unfolding decimal
+decimal-one n h = digits-one n n h
+
+pub decimal-more : (n : ℕ) → 10 ≤ n → decimal n ≡ decimal (n / 10) ++ ((48 + n % 10) ∷ [])
+unfolding decimal
+decimal-more n h = digits-more n n h ∙ rw (enough n (suc (n / 10)) (n / 10) (omega arith) (omega arith))
+
+-- a number below the power of ten has no more digits
+few : (j k n : ℕ) → n < 10 ^ suc k → length (digits j n) ≤ suc k
+few zero k n h = rw (digits-none n) (omega arith)
+few (suc j) k n h = by (ltb n 10) refl k h (few j)
+  where
+    by : (p : Bool) → ltb n 10 ≡ p → (k : ℕ) → n < 10 ^ suc k → ((i m : ℕ) → m < 10 ^ suc i → length (digits j m) ≤ suc i) → length (digits (suc j) n) ≤ suc k
+    by true e k h f = rw (digits-one j n (ltb-true _ _ e)) (omega arith)
+    by false e zero h f = let l : 10 ≤ n = ltb-false _ _ e in absurd (omega arith)
+    by false e (suc k) h f =
+        let l : 10 ≤ n = ltb-false _ _ e in
+        let r : length (digits j (n / 10)) ≤ suc k = f k (n / 10) (omega arith) in
+        rw (digits-more j n l, length-append) (omega arith)
+
+pub decimal-few : (k n : ℕ) → n < 10 ^ suc k → length (decimal n) ≤ suc k
+unfolding decimal
+decimal-few k n h = few (suc n) k n h
+
+-- what is written of a number, in each of the two cases: the place behind it, and what stands in front of that place
+pub written-one : (n from : ℕ) (out : List ℕ) → n < 10 → from < length out
+    → (from + 1 ≤ from + 10) × ((from + 1 ≡ from + length (decimal n)) × (take (from + 1) (set out from (48 + n)) ≡ take from out ++ decimal n))
+written-one n from out h i = (omega arith, rw (decimal-one n h) (refl, more out (take from out) from (48 + n) i refl))
+
+-- all digits but the last are nine at most
+pub but-last : (n : ℕ) → n < 2 ^ 32 → length (decimal (n / 10)) ≤ 9
+but-last n h = decimal-few 8 (n / 10) (omega arith)
+
+pub written-more : (n from last : ℕ) (out p : List ℕ) → 10 ≤ n → n < 2 ^ 32 → last < length out → last ≡ from + length (decimal (n / 10))
+    → take last out ≡ p ++ decimal (n / 10)
+    → (last + 1 ≤ from + 10) × ((last + 1 ≡ from + length (decimal n)) × (take (last + 1) (set out last (48 + n % 10)) ≡ p ++ decimal n))
+written-more n from last out p h f i e g = (
+  omega (arith, but-last n f),
+  rw (decimal-more n h) (rw length-append (omega arith), more out (p ++ decimal (n / 10)) last (48 + n % 10) i g ∙ append-assoc p (decimal (n / 10)) _),
+)
+
+-- a text of five parts, each written behind the others
+pub five : (p q r s t a b d e f : List ℕ) → p ≡ a → q ≡ p ++ b → r ≡ q ++ d → s ≡ r ++ e → t ≡ s ++ f → t ≡ a ++ (b ++ (d ++ (e ++ f)))
+five p q r s t a b d e f g h i j k = k ∙ rw (j, i, h, g) (simp append-assoc)
+
+-- the number whose decimal digits are those of a and then l
+unfoldable pub read : ℕ → List ℕ → ℕ
+read a [] = a
+read a (d ∷ l) = read (10 * a + (d - 48)) l
+
+read-last : (a : ℕ) (l : List ℕ) (d : ℕ) → read a (l ++ (d ∷ [])) ≡ 10 * read a l + (d - 48)
+unfolding read
+read-last a [] d = refl
+read-last a (x ∷ l) d = read-last (10 * a + (x - 48)) l d
+
+read-digits : (j n : ℕ) → n < j → read 0 (digits j n) ≡ n
+unfolding read
+read-digits zero n h = absurd (omega arith)
+read-digits (suc j) n h = by (ltb n 10) refl (read-digits j (n / 10))
+  where
+    by : (p : Bool) → ltb n 10 ≡ p → (n / 10 < j → read 0 (digits j (n / 10)) ≡ n / 10) → read 0 (digits (suc j) n) ≡ n
+    by true e f = rw (digits-one j n (ltb-true _ _ e)) (omega arith)
+    by false e f =
+        let l : 10 ≤ n = ltb-false _ _ e in
+        rw (digits-more j n l, read-last, f (omega arith)) (omega arith)
+
+-- the digits, read back, are the number
+pub number-decimal : (n : ℕ) → read 0 (decimal n) ≡ n
+unfolding decimal
+number-decimal n = read-digits (suc n) n (omega arith)
+
+head-more : (l r : List ℕ) → 48 < getD l 0 0 → 48 < getD (l ++ r) 0 0
+head-more [] r h = absurd (omega arith)
+head-more (x ∷ l) r h = h
+
+head-digits : (j n : ℕ) → n < j → 0 < n → 48 < getD (digits j n) 0 0
+head-digits zero n h i = absurd (omega arith)
+head-digits (suc j) n h i = by (ltb n 10) refl (head-digits j (n / 10))
+  where
+    by : (p : Bool) → ltb n 10 ≡ p → (n / 10 < j → 0 < n / 10 → 48 < getD (digits j (n / 10)) 0 0) → 48 < getD (digits (suc j) n) 0 0
+    by true e f = rw (digits-one j n (ltb-true _ _ e)) (omega arith)
+    by false e f =
+        let l : 10 ≤ n = ltb-false _ _ e in
+        rw (digits-more j n l) (head-more (digits j (n / 10)) _ (f (omega arith) (omega arith)))
+
+-- the first digit of a number that is not 0 is no `0`
+pub no-leading-zero : (n : ℕ) → 0 < n → 48 < getD (decimal n) 0 0
+unfolding decimal
+no-leading-zero n h = head-digits (suc n) n (omega arith) h
+
+-- the most frames of a call, as text
+example : decimal 360000 ≡ 51 ∷ 54 ∷ 48 ∷ 48 ∷ 48 ∷ 48 ∷ []
+unfolding decimal digits
+example = refl

@@ -3,7 +3,7 @@ ghost use mathlib.Core.Path.{_≡_};
 ghost use mathlib.Core.List.{_++_};
 ghost use Prim.Native.Nat.{_+_, _<_, _≤_};
 ghost use lib.ListN.{length, take};
-ghost use Rattle.print.specs.Print.{digit, word, words, pcm};
+ghost use Rattle.print.specs.Print.{digit, word, words, pcm, decimal, total, refused};
 
 // The digit of a value below 16.
 fn digit(v: u16) -> u8
@@ -54,4 +54,44 @@ pub fn pcm(samples: &[i16; 80], out: &mut [u8; 327])
     put(b"(pcm ", 0, out);
     words(samples, out);
     put(b")\n", 325, out);
+}
+
+// Writes the decimal digits of a number at place `from`, and answers the place behind them.
+fn number(n: u32, from: usize, out: &mut [u8]) -> usize
+    requires { ⌜ from + 10 ≤ length (now out) ⌝ }
+    ensures { λ r. ⌜ r ≤ from + 10 ⌝ }
+    ensures { λ r. ⌜ r ≡ from + length (decimal n) ⌝ }
+    ensures { λ r. ⌜ take r (now (out .exit)) ≡ take from (now (out .entry)) ++ decimal n ⌝ }
+{
+    if n < 10 {
+        out[from] = 48 + n as u8;
+        return from + 1;
+    }
+    let last = number(n / 10, from, out);
+    out[last] = 48 + (n % 10) as u8;
+    last + 1
+}
+
+// `(total (frames N) (lost M))`; answers its length, at most 46.
+pub fn total(frames: u32, lost: u32, out: &mut [u8; 46]) -> usize
+    ensures { λ r. ⌜ (r ≤ 46) × (take r (now (out .exit)) ≡ total frames lost) ⌝ }
+{
+    put(b"(total (frames ", 0, out);
+    let a = number(frames, 15, out);
+    put(b") (lost ", a, out);
+    let b = number(lost, a + 8, out);
+    put(b"))\n", b, out);
+    b + 3
+}
+
+// `(refused (code C) (line L))`; answers its length, at most 46.
+pub fn refused(code: u32, line: u32, out: &mut [u8; 46]) -> usize
+    ensures { λ r. ⌜ (r ≤ 46) × (take r (now (out .exit)) ≡ refused code line) ⌝ }
+{
+    put(b"(refused (code ", 0, out);
+    let a = number(code, 15, out);
+    put(b") (line ", a, out);
+    let b = number(line, a + 8, out);
+    put(b"))\n", b, out);
+    b + 3
 }
