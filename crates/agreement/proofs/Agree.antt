@@ -22,7 +22,8 @@ use Rattle.decoder.specs.declared.Decoded.{Decoded}
 use Rattle.decoder.specs.Frame.{to-lsp, subframe, voice, parameters, Buffers, frame-signal, decode}
 use Rattle.agreement.specs.Demand.{Call, FrameValues, delays, pitch-gains, fixed-gains, frequencies, filters, signal-before, samples, All, VoiceWith, PassesParity, DelaysInRange, Alike, Agreement}
 use Rattle.agreement.proofs.Ranges.{delays-good, accepted-after-frame}
-use Rattle.agreement.proofs.Runs.{code, given, said, run, accepted-params, answers-are, frames-are}
+use Rattle.agreement.specs.Run.{code, given, said, run}
+use Rattle.agreement.proofs.Runs.{accepted-params, answers-are, frames-are}
 
 -- ---- what is equal after n frames
 

@@ -16,7 +16,7 @@ use Rattle.state.specs.State as state
 use Rattle.decoder.specs.Frame as decoder
 use Rattle.decoder.specs.Call as call
 use Rattle.agreement.specs.Demand as demand
-use Rattle.agreement.proofs.Runs as runs
+use Rattle.agreement.specs.Run as runs
 
 unfoldable pub Operators : Type 0
 unfolding tab loops.steps loops.run op.sat op.add op.sub op.mult op.l-mult op.l-add op.l-sub op.l-mac op.l-msu op.extract-h op.low16 op.extract-l op.l-deposit-h op.round op.by-sign op.shl op.l-shl op.l-shr op.rounded op.l-shr-r op.normal op.doublings op.norm-l op.lesser op.greater op32.split-high-low op32.join-high-low op32.multiply-split-by-16 op32.multiply-32-by-16 op32.interpolate-q15 op32.log-fraction op32.base2-log op32.base2-power

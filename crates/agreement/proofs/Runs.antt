@@ -1,5 +1,4 @@
--- The run of a list of calls on a state's values instead of its block: it never asks for a block's length, so it gives parameters without
--- computing samples. From an accepted block both runs give the same.
+-- From an accepted block the calls give what the stages' run of specs/Run.antt gives, and so from the fresh state: demand 2.
 use Prim.Native.Nat.{ℕ, zero, suc}
 use mathlib.Core.Path.{_≡_, refl, sym, ap, ap₂, _∙_}
 use mathlib.Core.Bool.{Bool, true, false, cond}
@@ -11,28 +10,14 @@ use lib.ListN.{length, replicate, length-replicate}
 use mir.Facts.{and-yes}
 use Rattle.tables.specs.Layout.{table-check}
 use Rattle.plc.specs.Kinds.{decide}
-use Rattle.state.specs.State.{State, read-params, read, write, accepted, accepted-state}
-use Rattle.state.specs.Laws.{Sized, read-sized, read-write, accepted-write, check-of-accepted}
-use Rattle.decoder.specs.Frame.{Frame, decode}
+use Rattle.state.specs.State.{read-params, read, write, fresh, accepted, accepted-state}
+use Rattle.state.specs.Laws.{Sized, read-sized, read-write, fresh-sized, fresh-accepted, accepted-write, check-of-accepted}
+use Rattle.decoder.specs.Frame.{decode}
 use Rattle.decoder.specs.Call.{input-check, refusal, answer, frame}
-use Rattle.agreement.specs.Demand.{Call, made, number, block, output, answers, FrameValues, values, frames, AcceptedAfter, AnyOutput}
+use Rattle.agreement.specs.Demand.{Call, made, number, block, output, answers, values, frames, AcceptedAfter, AnyOutput}
+use Rattle.agreement.specs.Run.{code, given, said, run, Demand2}
 use Rattle.agreement.proofs.Lengths.{sized-after}
 use Rattle.agreement.proofs.Ranges.{accepted-after-frame}
-
--- what a call returns in every accepted state
-unfoldable pub code : Call → ℕ
-code c = cond (eqb (table-check (c .tables)) 0) (input-check (c .kind) (c .payload) (c .room)) (table-check (c .tables))
-
--- the frame that the call is, and what it leaves
-unfoldable pub given : Call → State → Frame
-given c s = decode (c .tables) (decide (c .kind) (c .payload)) s
-
-unfoldable pub said : Call → State → FrameValues
-said c s = record { call = c; decoded = given c s .decoded; before = s .signal; samples = given c s .samples }
-
-unfoldable pub run : List Call → State → List FrameValues
-run [] s = []
-run (c ∷ cs) s = cond (eqb (code c) 0) (said c s ∷ run cs (given c s .state)) (run cs s)
 
 -- ---- one call on an accepted block
 
@@ -104,6 +89,15 @@ frames-are (c ∷ cs) b ok = go (code c) refl (frames-are cs _ (frame-accepted c
     go : (k : ℕ) → code c ≡ k → frames cs w ≡ run cs (read w) → frames cs b ≡ run cs (read b) → frames (c ∷ cs) b ≡ run (c ∷ cs) (read b)
     go zero e r s = rw (made-frame c b ok e, e) (ap₂ _∷_ (values-are c b ok e) (r ∙ ap (run cs) (read-after c b ok)))
     go (suc k) e r s = rw (made-none c b ok k e, e, eqb·suc-zero) s
+
+pub demand-2 : Demand2
+demand-2 =
+    record {
+      answered = answers-are;
+      from-block = frames-are;
+      from-fresh = λ t e cs.
+          frames-are cs (write (fresh t)) (rw (fresh-accepted t e) tt) ∙ ap (run cs) (read-write (fresh t) (fresh-sized t));
+    }
 
 -- ---- the output's old words
 

@@ -10,7 +10,8 @@ use lib.ListN.{take, replicate}
 use Rattle.laws.specs.Lists.{at}
 use Rattle.state.specs.State.{read}
 use Rattle.agreement.specs.Demand.{Call, FrameValues, frames, only, delays, fixed-gains, frequencies, filters, All, VoiceWith, PassesParity, Handed, Alike, words, octets, Real, Differ, Demand3, ParityNeeded}
-use Rattle.agreement.proofs.Runs.{run, frames-are}
+use Rattle.agreement.specs.Run.{run}
+use Rattle.agreement.proofs.Runs.{frames-are}
 use Rattle.agreement.proofs.Agree.{agreement}
 use Rattle.agreement.proofs.Compute.{Run}
 
