@@ -129,7 +129,10 @@ fn one_call(rng: &mut Rng, kind: &str, round: usize) -> bool {
         decoder.decode(line.frame(), &mut expected);
         let found = frame(&block, &mut state, line);
         if found != expected || state != harness::save(&decoder) {
-            println!("call {round} ({kind} tables, {call_kind} call), frame {}: differs", n + 1);
+            println!(
+                "call {round} ({kind} tables, {call_kind} call), frame {}: differs",
+                n + 1
+            );
             return false;
         }
     }
@@ -154,7 +157,12 @@ fn speed(seed: u64, count: usize, rounds: usize) {
             rust = rust.min(time_rust(&block, &call));
         }
         let n = call.len() as f64;
-        println!("{name:10} {:8.0} {:8.0}  {:5.2}", n / proved, n / rust, rust / proved);
+        println!(
+            "{name:10} {:8.0} {:8.0}  {:5.2}",
+            n / proved,
+            n / rust,
+            rust / proved
+        );
     }
 }
 

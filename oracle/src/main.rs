@@ -121,9 +121,18 @@ fn formula() -> Outcome {
         ("lsp-cosine", &formula::LSP_COSINE),
         ("lsp-cosine-slope", &formula::LSP_COSINE_SLOPE),
         ("pow2", &formula::POW2),
-        ("gain-prediction-coefficients", &formula::GAIN_PREDICTION_COEFFICIENTS),
-        ("lsp-quantizer-initial-memory", &formula::LSP_QUANTIZER_INITIAL_MEMORY),
-        ("gain-predictor-initial-memory", &formula::GAIN_PREDICTOR_INITIAL_MEMORY),
+        (
+            "gain-prediction-coefficients",
+            &formula::GAIN_PREDICTION_COEFFICIENTS,
+        ),
+        (
+            "lsp-quantizer-initial-memory",
+            &formula::LSP_QUANTIZER_INITIAL_MEMORY,
+        ),
+        (
+            "gain-predictor-initial-memory",
+            &formula::GAIN_PREDICTOR_INITIAL_MEMORY,
+        ),
     ];
     for (name, words) in tables {
         let words: Vec<String> = words.iter().map(i16::to_string).collect();

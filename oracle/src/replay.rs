@@ -14,9 +14,7 @@ use std::io::Write;
 pub fn stages(out: &mut impl Write, seed: u64, cases: usize, frames: usize) -> Result<(), String> {
     let mut rng = Rng::new(seed);
     for case in 0..cases {
-        let block = tables_of(&mut rng, case)?;
-        let tables = harness::tables(&block);
-        let state = state_of(&mut rng, case, &tables)?;
+        let (block, tables, state) = blocks_of(&mut rng, case)?;
         line(out, 'T', &block)?;
         line(out, 'S', &state)?;
         let call = call_of(&mut rng, frames)?;
@@ -31,10 +29,17 @@ pub fn stages(out: &mut impl Write, seed: u64, cases: usize, frames: usize) -> R
     Ok(())
 }
 
+/// The tables and the state that a case starts from.
+fn blocks_of(rng: &mut Rng, case: usize) -> Result<(TableBlock, Tables, StateBlock), String> {
+    let block = tables_of(rng, case)?;
+    let tables = harness::tables(&block);
+    let state = state_of(rng, case, &tables)?;
+    Ok((block, tables, state))
+}
+
 /// The tables of a case: the kinds in turn.
 fn tables_of(rng: &mut Rng, case: usize) -> Result<TableBlock, String> {
-    generate::tables(rng, TABLE_KINDS[case % TABLE_KINDS.len()])
-        .ok_or("no such tables".to_string())
+    generate::tables(rng, TABLE_KINDS[case % TABLE_KINDS.len()]).ok_or("no such tables".to_string())
 }
 
 /// The state that a case starts from: fresh, and each of the other kinds, in turn.
@@ -96,9 +101,7 @@ fn line(out: &mut impl Write, letter: char, words: &[i16]) -> Result<(), String>
 pub fn calls(out: &mut impl Write, seed: u64, cases: usize, frames: usize) -> Result<(), String> {
     let mut rng = Rng::new(seed);
     for case in 0..cases {
-        let block = tables_of(&mut rng, case)?;
-        let tables = harness::tables(&block);
-        let state = state_of(&mut rng, case, &tables)?;
+        let (block, tables, state) = blocks_of(&mut rng, case)?;
         line(out, 'T', &block)?;
         match case % (STATE_KINDS.len() + 1) {
             0 => line(out, 'N', &[])?,
@@ -157,7 +160,17 @@ fn refusal_words(rng: &mut Rng) -> [i16; 13] {
 
 /// The answers of Table check, Fresh state, Frame and Fields, by the conditions of document 01.
 fn refusals(arguments: [i16; 9]) -> [i16; 4] {
-    let [tables, initial, state, predictor, delay, kind, payload, room, receiver] = arguments;
+    let [
+        tables,
+        initial,
+        state,
+        predictor,
+        delay,
+        kind,
+        payload,
+        room,
+        receiver,
+    ] = arguments;
     let first = |conditions: &[(bool, i16)]| {
         let found = conditions.iter().find(|(refused, _)| *refused);
         found.map_or(0, |&(_, code)| code)
