@@ -11,6 +11,7 @@ use lib.ListN.{getD, set, take}
 use Rattle.laws.specs.Lists.{at, tab}
 use Rattle.laws.specs.Loops.{steps, run}
 use Rattle.basic_op.specs.Ops.{add, sub, mult, l-mult, l-mac, l-msu, l-shl, l-shr, extract-h, extract-l, l-deposit-h, low16, lesser, greater}
+use Rattle.sort.specs.Sort.{sort}
 use Rattle.tables.specs.Layout.{lsp-cb1, lsp-cb2, lsp-ma, lsp-ma-sum, lsp-ma-sum-inv, scalar}
 use Rattle.tables.specs.Formula.{lsp-cosine, lsp-cosine-slope}
 use Rattle.tables.specs.declared.Scalar.the-variants.{LsfStabilityLowLimit, LsfStabilityHighLimit, LsfStabilityMinDistance}
@@ -68,16 +69,6 @@ unfoldable pub remember-output : List (List ℤ) → List ℤ → List (List ℤ
 remember-output past l = l ∷ take 3 past
 
 -- ---- clause 3.2.4: order and bounds
-
--- x put before the first word that is not less
-unfoldable pub insert : ℤ → List ℤ → List ℤ
-insert x [] = x ∷ []
-insert x (y ∷ l) = cond (ltZ y x) (y ∷ insert x l) (x ∷ (y ∷ l))
-
--- the words in increasing order, as specs/Sorted.antt proves
-unfoldable pub sort : List ℤ → List ℤ
-sort [] = []
-sort (x ∷ l) = insert x (sort l)
 
 -- next, or previous plus the distance where it is nearer than that
 unfoldable pub keep-distance : ℤ → ℤ → ℤ → ℤ
