@@ -15,10 +15,10 @@ use Rattle.lsp.proofs.add_past.Statement.{statement}
 use Rattle.lsp.proofs.add_past.Tie as tie
 
 abbrev Inv-loop : tie.InvT-loop
-Inv-loop i sum past weights total₀ k₀ total k = (k ≤ 4) × (toZ w32 total ≡ steps (λ j s. l-mac s (at (row past j) i) (at (row weights j) i)) k (toZ w32 sum))
+Inv-loop past weights i sum total₀ k₀ total k = (k ≤ 4) × (toZ w32 total ≡ steps (λ j s. l-mac s (at (row past j) i) (at (row weights j) i)) k (toZ w32 sum))
 
 abbrev μ-loop : tie.MeasureT-loop
-μ-loop i sum past weights total₀ k₀ total k = 4 - k
+μ-loop past weights i sum total₀ k₀ total k = 4 - k
 
 loop-again : tie.Need-loop-again Inv-loop μ-loop
 loop-again c = (

@@ -18,7 +18,7 @@ abbrev μ-loop : tie.MeasureT-loop
 μ-loop spacing out₀ k₀ out k = 9 - k
 
 loop-again : tie.Need-loop-again Inv-loop μ-loop
-loop-again c = (search needs, steps-turn _ _ _ _ _ (c .before .before .loop .inv .1) (c .spread-pair .ensures))
+loop-again c = (search needs, steps-turn _ _ _ _ _ (c .before .before .before .loop .inv .1) (c .spread-pair .ensures))
 
 returns : tie.Need-returns Inv-loop μ-loop
 unfolding enforce-spacing

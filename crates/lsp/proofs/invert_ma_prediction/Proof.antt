@@ -14,17 +14,17 @@ use Rattle.lsp.proofs.invert_ma_prediction.Statement.{statement}
 use Rattle.lsp.proofs.invert_ma_prediction.Tie as tie
 
 abbrev Inv-loop : tie.InvT-loop
-Inv-loop past weights omega inverse out₀ i₀ out i = (i ≤ 10) × (out ≡ filled (λ j. extract-h (l-shl (l-mult (extract-h (subtract-past past weights j (l-deposit-h (at omega j)))) (at inverse j)) (pos 3))) i (replicate 10 (pos 0)))
+Inv-loop omega past weights inverse out₀ i₀ out i = (i ≤ 10) × (out ≡ filled (λ j. extract-h (l-shl (l-mult (extract-h (subtract-past past weights j (l-deposit-h (at omega j)))) (at inverse j)) (pos 3))) i (replicate 10 (pos 0)))
 
 abbrev μ-loop : tie.MeasureT-loop
-μ-loop past weights omega inverse out₀ i₀ out i = 10 - i
+μ-loop omega past weights inverse out₀ i₀ out i = 10 - i
 
 loop-again : tie.Need-loop-again Inv-loop μ-loop
 loop-again c =
-    let s = c .before .before .before .before .before in (
+    let s = c .before .before .before .before .before .before .before in (
       search needs,
-      fill _ _ _ _ _ (search needs) (c .before .before .before .before .loop .inv .1)
-          (via2 w16 w16 w16 (λ x y. extract-h (l-shl (l-mult (extract-h (subtract-past (s .args .past) (s .args .weights) (c .before .before .before .before .loop .i) (l-deposit-h x))) y) (pos 3))) _ _ (c .inverted .result) (c .before .before .inverted-arg .given) (c .before .inverted-arg2 .given) (c .inverted .ok) (c .inverted .ensures)),
+      fill _ _ _ _ _ (search needs) (c .before .before .before .before .before .before .loop .inv .1)
+          (via2 w16 w16 w16 (λ x y. extract-h (l-shl (l-mult (extract-h (subtract-past (s .args .t2) (s .args .t3) (c .before .before .before .before .before .before .loop .i) (l-deposit-h x))) y) (pos 3))) _ _ (c .inverted .result) (c .before .before .inverted-arg .given) (c .before .inverted-arg2 .given) (c .inverted .ok) (c .inverted .ensures)),
     )
 
 returns : tie.Need-returns Inv-loop μ-loop
