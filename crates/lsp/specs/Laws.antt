@@ -11,7 +11,8 @@ use Rattle.laws.specs.Lists.{at}
 use Rattle.laws.specs.Loops.{run}
 use Rattle.basic_op.specs.Ops.{add, sub, lesser, greater}
 use Rattle.sort.specs.Sort.{sort}
-use Rattle.lsp.specs.Lsp.{row, keep-distance, spread-pair, order-and-bound}
+use Rattle.lsp_ma.specs.Ma.{row}
+use Rattle.lsp.specs.Lsp.{keep-distance, spread-pair, order-and-bound}
 
 -- ---- the outcomes of a test, which the code makes on what it reads back
 
