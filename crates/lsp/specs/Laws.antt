@@ -1,6 +1,6 @@
 -- Laws of the loops' turns and of the outcomes of tests. Assumes nothing.
-use mathlib.Core.Path.{_≡_, refl}
-use mathlib.Core.Bool.{true, false}
+use mathlib.Core.Path.{_≡_, refl, sym}
+use mathlib.Core.Bool.{Bool, true, false}
 use mathlib.Core.List.{List, [], _∷_}
 use Prim.Native.Nat.{ℕ, _+_, _≤_}
 use native.Mathlib.Omega.{arith}
@@ -8,11 +8,11 @@ use lib.IntN.{ℤ, pos}
 use lib.Signed.{ltZ, shrZ}
 use lib.ListN.{length, set, take}
 use Rattle.laws.specs.Lists.{at}
-use Rattle.laws.specs.Loops.{run}
+use Rattle.laws.specs.Loops.{run, nowhere, nowhere-each, steps-still}
 use Rattle.basic_op.specs.Ops.{add, sub, lesser, greater}
 use Rattle.sort.specs.Sort.{sort}
 use Rattle.lsp_ma.specs.Ma.{row}
-use Rattle.lsp.specs.Lsp.{keep-distance, spread-pair, order-and-bound}
+use Rattle.lsp.specs.Lsp.{keep-distance, spread-pair, enforce-spacing, order-and-bound}
 
 -- ---- the outcomes of a test, which the code makes on what it reads back
 
@@ -33,6 +33,16 @@ module _ (spacing : ℤ) (k : ℕ) (l : List ℤ) {s : ℤ} (e : s ≡ add (sub 
   pub wide-enough : ltZ (pos 0) s ≡ false → l ≡ spread-pair spacing k l
   unfolding spread-pair
   wide-enough p = rw (← e, p)
+
+-- ---- a row that is spaced already
+
+-- words k and k + 1 lack something to the spacing
+unfoldable pub close : ℤ → List ℤ → ℕ → Bool
+close spacing l k = ltZ (pos 0) (add (sub (at l k) (at l (k + 1))) spacing)
+
+pub stays : (spacing : ℤ) (l : List ℤ) → nowhere (close spacing l) 9 ≡ true → l ≡ enforce-spacing spacing l
+unfolding enforce-spacing close
+stays spacing l e = sym (steps-still (spread-pair spacing) 9 l (λ k b. sym (wide-enough spacing k l refl (nowhere-each (close spacing l) 9 k e b))))
 
 -- ---- the first three rows of a list
 
