@@ -25,10 +25,10 @@ loop-again : tie.Need-loop-again Inv-loop μ-loop
 unfolding close
 loop-again c =
     let f = c .before in
-    let m = f .before .before .before .before in
-    let e = via2 w16 w16 w16 (λ x y. add (sub x y) (toZ w16 (ofZ w16 (m .before .args .spacing)))) _ _ (f .shortfall .result) (f .before .before .shortfall-arg .given) (f .before .shortfall-arg2 .given) (f .shortfall .ok) (f .shortfall .ensures) in (
+    let m = f .before .before .before .before in (
       search needs,
-      ⊎-elim (λ w. w .1 ∙ nowhere-hit _ _ (rw e at (w .0 .taken))) (λ w. w .1 ∙ nowhere-miss _ _ _ (m .loop .inv .1) (rw e at (w .0 .left))) (c .if1 .came),
+      let e = via2 w16 w16 w16 (λ x y. add (sub x y) (toZ w16 (ofZ w16 (m .before .args .spacing)))) _ _ (f .shortfall .result) (f .before .before .shortfall-arg .given) (f .before .shortfall-arg2 .given) (f .shortfall .ok) (f .shortfall .ensures) in
+          ⊎-elim (λ w. w .1 ∙ nowhere-hit _ _ (rw e at (w .0 .taken))) (λ w. w .1 ∙ nowhere-miss _ _ _ (m .loop .inv .1) (rw e at (w .0 .left))) (c .if1 .came),
     )
 
 returns : tie.Need-returns Inv-loop μ-loop
