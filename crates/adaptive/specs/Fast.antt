@@ -38,6 +38,10 @@ Small l p n m = (j : ℕ) → j < n → mag (at l (p + j)) < m
 abbrev pub Sums : List ℤ → List ℤ → ℕ → Type 0
 Sums c u p = (n : ℕ) → n ≤ 20 → mag (dot c u p n) < 2 ^ 31
 
+-- taps of a weight at which no sum of small words saturates, and places within the buffer
+abbrev pub Steady : List ℤ → ℕ → ℕ → Type 0
+Steady c from k = (weight c 20 ≤ 65534) × ((10 ≤ k) × ((k + 9 ≤ from) × (from + 40 ≤ 234)))
+
 -- what takes the first m words written from p on to the first n
 abbrev pub Goes : (ℕ → List ℤ → ℤ) → ℕ → ℕ → ℕ → List ℤ → List ℤ → Type 0
 Goes f p m n e x = (l : List ℤ) → e ≡ run f p m l → x ≡ run f p n l

@@ -4,7 +4,7 @@ ghost use Prim.Native.Nat.{ℕ, _+_, _-_, _^_, _≤_, _<_};
 ghost use lib.IntN.{_*ℤ_};
 ghost use lib.Signed.{mag};
 ghost use Rattle.laws.specs.Loops.{run};
-ghost use Rattle.adaptive.specs.Fast.{tap, taps, weight, dot, filtered, Small, Sums};
+ghost use Rattle.adaptive.specs.Fast.{tap, taps, weight, dot, filtered, Small, Sums, Steady, Goes};
 
 // Where tap j of the phase stands in the filter; tap 9 weighs the word in the middle.
 fn tap(phase: usize, j: usize) -> usize
@@ -109,13 +109,20 @@ fn word(c: &[i16; 20], exc: &[i16; 234], from: usize) -> i32
     basic_op::sar32(s + 16384, 15)
 }
 
-// Words from `from` on, up to the first that is not small; their number.
-fn words(c: &[i16; 20], exc: &mut [i16; 234], from: usize, k: usize) -> usize
-    requires { ⌜ (weight (now c) 20 ≤ 65534) × ((10 ≤ k) × ((k + 9 ≤ from) × ((from + 40 ≤ 234) × Small (now exc) (from - k - 9) 59 16384))) ⌝ }
-    ensures { λ r. ⌜ (r ≤ 40) × (now (exc .exit) ≡ run (λ n e. filtered (now (c .entry)) (from + n - k) e) from r (now (exc .entry))) ⌝ }
+// Words `start` to `end` of the subframe at `from`, up to the first that is not small; where it stopped.
+fn words(
+    c: &[i16; 20],
+    exc: &mut [i16; 234],
+    from: usize,
+    k: usize,
+    start: usize,
+    end: usize,
+) -> usize
+    requires { ⌜ Steady (now c) from k × ((start ≤ end) × ((end ≤ 40) × Small (now exc) (from - k - 9) 59 16384)) ⌝ }
+    ensures { λ r. ⌜ (r ≤ end) × (Small (now (exc .exit)) (from - k - 9) 59 16384 × Goes (λ n e. filtered (now (c .entry)) (from + n - k) e) from start r (now (exc .entry)) (now (exc .exit))) ⌝ }
 {
-    let mut n = 0;
-    while n < 40 {
+    let mut n = start;
+    while n < end {
         let w = word(c, exc, from + n - k - 9);
         if w > 16383 {
             return n;
@@ -129,7 +136,8 @@ fn words(c: &[i16; 20], exc: &mut [i16; 234], from: usize, k: usize) -> usize
     n
 }
 
-// The first words of a subframe; none where a tap or a word is too large.
+// The first words of a subframe; none where a tap or a word is too large. There are two calls of `words` so that the compiler keeps it a
+// function: inlined, its taps become twenty scalars, and no product is made by a vector instruction.
 pub(crate) fn first_words(c: &[i16; 20], exc: &mut [i16; 234], from: usize, k: usize) -> usize
     requires { ⌜ (10 ≤ k) × ((k + 9 ≤ from) × (from + 40 ≤ 234)) ⌝ }
     ensures { λ r. ⌜ (r ≤ 40) × (now (exc .exit) ≡ run (λ n e. filtered (now (c .entry)) (from + n - k) e) from r (now (exc .entry))) ⌝ }
@@ -140,5 +148,9 @@ pub(crate) fn first_words(c: &[i16; 20], exc: &mut [i16; 234], from: usize, k: u
     if greatest(exc, from - k - 9) > 16383 {
         return 0;
     }
-    words(c, exc, from, k)
+    let half = words(c, exc, from, k, 0, 20);
+    if half < 20 {
+        return half;
+    }
+    words(c, exc, from, k, 20, 40)
 }
