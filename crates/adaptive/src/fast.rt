@@ -72,27 +72,13 @@ fn times(a: i16, b: i16) -> i32
     a as i32 * b as i32
 }
 
-// The first sixteen products, a count that compiles to vector instructions.
-fn dot16(c: &[i16; 20], exc: &[i16; 234], from: usize) -> i32
+// The sum of the twenty products, the oldest word at `from`.
+fn dot(c: &[i16; 20], exc: &[i16; 234], from: usize) -> i32
     requires { ⌜ (from + 20 ≤ 234) × Sums (now c) (now exc) from ⌝ }
-    ensures { λ r. ⌜ r ≡ dot (now (c .entry)) (now (exc .entry)) from 16 ⌝ }
+    ensures { λ r. ⌜ r ≡ dot (now (c .entry)) (now (exc .entry)) from 20 ⌝ }
 {
     let mut s = 0i32;
     let mut j = 0;
-    while j < 16 {
-        s += times(exc[from + j], c[j]);
-        j += 1;
-    }
-    s
-}
-
-// All twenty, from the sum of sixteen.
-fn dot20(c: &[i16; 20], exc: &[i16; 234], from: usize, sum: i32) -> i32
-    requires { ⌜ (from + 20 ≤ 234) × (Sums (now c) (now exc) from × (sum ≡ dot (now c) (now exc) from 16)) ⌝ }
-    ensures { λ r. ⌜ r ≡ dot (now (c .entry)) (now (exc .entry)) from 20 ⌝ }
-{
-    let mut s = sum;
-    let mut j = 16;
     while j < 20 {
         s += times(exc[from + j], c[j]);
         j += 1;
@@ -105,8 +91,7 @@ fn word(c: &[i16; 20], exc: &[i16; 234], from: usize) -> i32
     requires { ⌜ (from + 20 ≤ 234) × ((weight (now c) 20 ≤ 65534) × Small (now exc) from 20 16384) ⌝ }
     ensures { λ r. ⌜ r ≡ filtered (now (c .entry)) (from + 9) (now (exc .entry)) ⌝ }
 {
-    let s = dot20(c, exc, from, dot16(c, exc, from));
-    basic_op::sar32(s + 16384, 15)
+    basic_op::sar32(dot(c, exc, from) + 16384, 15)
 }
 
 // Words `start` to `end` of the subframe at `from`, up to the first that is not small; where it stopped.

@@ -1,4 +1,4 @@
--- `adaptive::fast::dot16` meets its contract: before turn j the sum is that of the first j products, and fits.
+-- `adaptive::fast::dot` meets its contract: before turn j the sum is that of the first j products, and fits.
 use mathlib.Core.Path.{_≡_, refl, ap, _∙_}
 use Prim.Native.Nat.{_+_, _-_, _≤_}
 use native.Mathlib.Omega.{arith}
@@ -12,14 +12,14 @@ use Rattle.laws.specs.Loops.{steps}
 use Rattle.laws.specs.Back.{via2}
 use Rattle.adaptive.specs.Fast.{dot}
 use Rattle.adaptive.specs.Sums.{dot-next, fits-next}
-use Rattle.adaptive.proofs.fast.dot16.Statement.{statement}
-use Rattle.adaptive.proofs.fast.dot16.Tie as tie
+use Rattle.adaptive.proofs.fast.dot.Statement.{statement}
+use Rattle.adaptive.proofs.fast.dot.Tie as tie
 
 abbrev Inv-loop : tie.InvT-loop
-Inv-loop c exc from s₀ j₀ s j = (j ≤ 16) × (toZ w32 s ≡ dot c exc from j)
+Inv-loop c exc from s₀ j₀ s j = (j ≤ 20) × (toZ w32 s ≡ dot c exc from j)
 
 abbrev μ-loop : tie.MeasureT-loop
-μ-loop c exc from s₀ j₀ s j = 16 - j
+μ-loop c exc from s₀ j₀ s j = 20 - j
 
 loop-holds : tie.Need-loop-holds Inv-loop μ-loop
 unfolding dot steps
@@ -45,8 +45,8 @@ loop-again c =
 returns : tie.Need-returns Inv-loop μ-loop
 returns c = c .before .loop .inv .1 ∙ ap (dot _ _ _) (omega arith)
 
-pub dot16-spec : {M : Type 1} → statement M
-dot16-spec =
+pub dot-spec : {M : Type 1} → statement M
+dot-spec =
     tie.close
     (tie.spec
     Inv-loop
