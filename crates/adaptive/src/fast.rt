@@ -1,6 +1,6 @@
 // Equation (40) of G.729 clause 3.7.1 without saturation, where taps and words are small enough that no partial sum leaves 31 bits.
 ghost use mathlib.Core.Path.{_≡_};
-ghost use Prim.Native.Nat.{ℕ, _+_, _-_, _^_, _≤_, _<_};
+ghost use Prim.Native.Nat.{_+_, _-_, _≤_, _<_};
 ghost use lib.IntN.{_*ℤ_};
 ghost use lib.Signed.{mag};
 ghost use Rattle.laws.specs.Loops.{run};
@@ -39,13 +39,13 @@ fn magnitude(x: i16) -> u16
 }
 
 // At least the sum of the taps without their signs.
-fn weight(c: &[i16; 20]) -> usize
+fn weight(c: &[i16; 20]) -> u32
     ensures { λ r. ⌜ r ≡ weight (now (c .entry)) 20 ⌝ }
 {
-    let mut s = 0;
+    let mut s = 0u32;
     let mut j = 0;
     while j < 20 {
-        s += magnitude(c[j]) as usize + 1;
+        s += magnitude(c[j]) as u32 + 1;
         j += 1;
     }
     s

@@ -1,6 +1,6 @@
 -- `adaptive::vector` meets its contract: the words without saturation are those of `interpolate`, and `rest` goes on from there. Assumes nothing.
 use borrow.Author.Needs.{needs}
-use Rattle.adaptive.specs.Sums.{words-by-taps}
+use Rattle.adaptive.specs.FastLaws.{words-by-taps}
 use Rattle.adaptive.proofs.vector.Statement.{statement}
 use Rattle.adaptive.proofs.vector.Tie as tie
 

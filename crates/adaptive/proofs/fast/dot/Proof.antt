@@ -11,7 +11,7 @@ use Rattle.laws.specs.Lists.{at}
 use Rattle.laws.specs.Loops.{steps}
 use Rattle.laws.specs.Back.{via2}
 use Rattle.adaptive.specs.Fast.{dot}
-use Rattle.adaptive.specs.Sums.{dot-next, fits-next}
+use Rattle.adaptive.specs.FastLaws.{dot-next, fits-next}
 use Rattle.adaptive.proofs.fast.dot.Statement.{statement}
 use Rattle.adaptive.proofs.fast.dot.Tie as tie
 

@@ -9,7 +9,7 @@ use mir.Syntax.{w16}
 use Rattle.laws.specs.Lists.{at}
 use Rattle.laws.specs.Back.{via}
 use Rattle.adaptive.specs.Fast.{Small}
-use Rattle.adaptive.specs.Sums.{small-next}
+use Rattle.adaptive.specs.FastLaws.{small-next}
 use Rattle.adaptive.proofs.fast.greatest.Statement.{statement}
 use Rattle.adaptive.proofs.fast.greatest.Tie as tie
 

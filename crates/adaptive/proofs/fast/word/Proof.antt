@@ -3,7 +3,7 @@ use borrow.Author.Needs.{needs}
 use mir.Syntax.{w32}
 use mir.Facts.{toZ-ofZ}
 use Rattle.laws.specs.Back.{came}
-use Rattle.adaptive.specs.Sums.{sums-fit, fits-rounded, filtered-is}
+use Rattle.adaptive.specs.FastLaws.{sums-fit, fits-rounded, filtered-is}
 use Rattle.adaptive.proofs.fast.word.Statement.{statement}
 use Rattle.adaptive.proofs.fast.word.Tie as tie
 

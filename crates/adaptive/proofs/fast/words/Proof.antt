@@ -12,7 +12,7 @@ use Rattle.laws.specs.Range.{within}
 use Rattle.laws.specs.Back.{came}
 use Rattle.basic_op.specs.Laws.{fits-within}
 use Rattle.adaptive.specs.Fast.{filtered, Small, Goes}
-use Rattle.adaptive.specs.Sums.{small-part, small-set}
+use Rattle.adaptive.specs.FastLaws.{small-part, small-set}
 use Rattle.adaptive.proofs.fast.words.Statement.{statement}
 use Rattle.adaptive.proofs.fast.words.Tie as tie
 
