@@ -57,8 +57,7 @@ pub fn call(rng: &mut Rng, tables: &Tables, kind: &str, frames: usize) -> Option
 fn next_syllable(rng: &mut Rng, kind: &str, delay: i32) -> Syllable {
     let pause = rng.chance(35);
     let (low, high) = match kind {
-        "quiet" => (4, 20),
-        _ if pause => (20, 60),
+        _ if pause || kind == "quiet" => (20, 60),
         _ => (500, 4000),
     };
     Syllable {
@@ -115,7 +114,6 @@ fn draw(rng: &mut Rng, syllable: &Syllable) -> [u8; 10] {
     let mut bits = 0u128;
     for (field, width) in WIDTHS.into_iter().enumerate() {
         let value = match field {
-            0 => 0,
             1 => u128::from(syllable.spectrum),
             4 => syllable.delay as u128,
             5 => u128::from(!parity_ok(syllable.delay as u16, 0)),
