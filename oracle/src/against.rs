@@ -1,5 +1,5 @@
-//! g729-compare: the proved library and the Rust, fed the same tables, states and frames in one run. `frames` compares every
-//! sample and every state word; `speed` times both in turn, so that what else the machine does weighs on both alike.
+//! g729-compare: the proved library and the Rust in one process, fed the same tables, states and frames. First every sample and every
+//! state word is compared, then both are timed in turn, so that what else the machine does weighs on both alike.
 
 // The modules are those of g729-oracle, which uses more of them.
 #![allow(dead_code)]
@@ -8,23 +8,52 @@ mod blocks;
 mod generate;
 mod real;
 mod rng;
+mod speech;
 mod text;
 
+use g729::bitstream::SpeechParams;
 use g729::harness::{self, Samples, StateBlock, TableBlock};
-use g729::{Decoder, FRAME_SAMPLES};
+use g729::{Decoder, FRAME_SAMPLES, stages};
 use generate::{CALL_KINDS, STATE_KINDS, TABLE_KINDS};
 use rng::Rng;
 use std::hint::black_box;
 use std::process::ExitCode;
-use std::time::Instant;
 use text::FrameLine;
 
-const USAGE: &str = "usage:
-  g729-compare frames SEED FRAMES
-  g729-compare speed SEED FRAMES ROUNDS";
+const USAGE: &str = "usage: g729-compare [--seed N] [--frames N] [--rounds N]
+  --seed N     of all that is drawn (1)
+  --frames N   how many frames are compared, at least (200000)
+  --rounds N   how often each class is timed (15); 0 leaves the measurement out";
 
-/// Frames of one call of `frames`.
+/// Frames of one compared call.
 const CALL: usize = 40;
+/// Frames of a class, and those that each of both decodes in turn.
+const TIMED: usize = 4000;
+const PART: usize = 100;
+
+/// The classes that are timed: name, kind of tables, and what they are.
+const CLASSES: [(&str, &str, &str); 4] = [
+    (
+        "quiet",
+        "real",
+        "voice frames, speech-like fields, level of a pause",
+    ),
+    (
+        "ordinary",
+        "real",
+        "voice frames, speech-like: syllables of level 500 to 4000 and pauses",
+    ),
+    (
+        "loud",
+        "uniform",
+        "voice frames of random bits with random tables: full scale, saturating",
+    ),
+    (
+        "concealed",
+        "real",
+        "nine frames of ten of kinds 1 to 3, one speech-like voice frame",
+    ),
+];
 
 // The proved library: a slice is a pointer and a length. Each returns 0 or the number of a refusal.
 unsafe extern "C" {
@@ -39,6 +68,14 @@ unsafe extern "C" {
         payload_len: usize,
         out: *mut i16,
         out_len: usize,
+    ) -> u32;
+    fn holdamek_fields(bytes: *const u8, len: usize, to: *mut u16, to_len: usize) -> u32;
+    fn holdamek_line(
+        text: *const u8,
+        text_len: usize,
+        kind: *mut u32,
+        payload: *mut u8,
+        payload_len: usize,
     ) -> u32;
 }
 
@@ -78,37 +115,88 @@ fn frame(tables: &TableBlock, state: &mut StateBlock, line: &FrameLine) -> Sampl
     out
 }
 
-fn main() -> ExitCode {
-    let args: Vec<String> = std::env::args().skip(1).collect();
-    let numbers: Option<Vec<u64>> = args.iter().skip(1).map(|a| a.parse().ok()).collect();
-    match (args.first().map(String::as_str), numbers.as_deref()) {
-        (Some("frames"), Some(&[seed, count])) => frames(seed, count as usize),
-        (Some("speed"), Some(&[seed, count, rounds])) => {
-            speed(seed, count as usize, rounds as usize);
-            ExitCode::SUCCESS
-        }
-        _ => {
-            eprintln!("{USAGE}");
-            ExitCode::from(2)
-        }
+/// The line as the library reads it back from its text.
+fn read_back(line: &FrameLine) -> FrameLine {
+    let (text, mut kind, mut payload) = (line.text(), 0, [0; 10]);
+    // SAFETY: as above.
+    let code = unsafe {
+        holdamek_line(
+            text.as_ptr(),
+            text.len(),
+            &mut kind,
+            payload.as_mut_ptr(),
+            payload.len(),
+        )
+    };
+    assert_eq!(code, 0, "a line was refused");
+    FrameLine {
+        kind: kind as usize,
+        payload,
     }
 }
 
-/// Compares at least `count` frames over all kinds, and prints a line for each kind of tables.
-fn frames(seed: u64, count: usize) -> ExitCode {
+fn fields(bytes: &[u8; 10]) -> [u16; 15] {
+    let mut fields = [0; 15];
+    // SAFETY: as above.
+    let code = unsafe {
+        holdamek_fields(
+            bytes.as_ptr(),
+            bytes.len(),
+            fields.as_mut_ptr(),
+            fields.len(),
+        )
+    };
+    assert_eq!(code, 0, "ten bytes were refused");
+    fields
+}
+
+fn main() -> ExitCode {
+    let args: Vec<String> = std::env::args().skip(1).collect();
+    let (mut seed, mut count, mut rounds) = (1, 200_000, 15);
+    for option in args.chunks(2) {
+        let value = option.get(1).and_then(|v| v.parse::<u64>().ok());
+        match (option[0].as_str(), value) {
+            ("--seed", Some(n)) => seed = n,
+            ("--frames", Some(n)) => count = n,
+            ("--rounds", Some(n)) => rounds = n,
+            _ => {
+                eprintln!("{USAGE}");
+                return ExitCode::from(2);
+            }
+        }
+    }
+    let differing = compare(seed, count as usize);
+    if rounds > 0 {
+        measure(seed, rounds);
+    }
+    ExitCode::from(u8::from(differing > 0))
+}
+
+/// Compares at least `count` frames over all kinds of tables, states and calls, and prints a line for each kind of
+/// tables. Returns how many calls differ.
+fn compare(seed: u64, count: usize) -> usize {
     let mut rng = Rng::new(seed);
-    let mut compared = [0; TABLE_KINDS.len()];
-    let mut differing = 0;
+    let mut calls = [0; TABLE_KINDS.len()];
+    let mut differing = [0; TABLE_KINDS.len()];
     for round in 0..count.div_ceil(CALL) {
         let at = round % TABLE_KINDS.len();
-        differing += usize::from(!one_call(&mut rng, TABLE_KINDS[at], round));
-        compared[at] += CALL;
+        calls[at] += 1;
+        differing[at] += usize::from(!one_call(&mut rng, TABLE_KINDS[at], round));
     }
-    for (kind, n) in TABLE_KINDS.iter().zip(compared) {
-        println!("{kind:10} {n:9} frames");
+    println!(
+        "compared: every sample and state word, the fields and the line of every frame; seed {seed}"
+    );
+    println!("tables         calls     frames    samples  state words  differing calls");
+    let row = |name: &str, calls: usize, differing: usize| {
+        let n = calls * CALL;
+        let (samples, words) = (n * FRAME_SAMPLES, n * harness::STATE_WORDS);
+        println!("{name:10} {calls:9} {n:10} {samples:10} {words:12} {differing:16}");
+    };
+    for ((kind, calls), differing) in TABLE_KINDS.iter().zip(calls).zip(differing) {
+        row(kind, calls, differing);
     }
-    println!("{differing} calls differ");
-    ExitCode::from(u8::from(differing > 0))
+    row("all", calls.iter().sum(), differing.iter().sum());
+    differing.iter().sum()
 }
 
 /// Whether both agree on one call; the first difference is printed.
@@ -128,7 +216,12 @@ fn one_call(rng: &mut Rng, kind: &str, round: usize) -> bool {
         let mut expected = [0; FRAME_SAMPLES];
         decoder.decode(line.frame(), &mut expected);
         let found = frame(&block, &mut state, line);
-        if found != expected || state != harness::save(&decoder) {
+        let unpacked = stages::fields(&SpeechParams::unpack(&line.payload));
+        let same = found == expected
+            && state == harness::save(&decoder)
+            && read_back(line) == *line
+            && fields(&line.payload) == unpacked;
+        if !same {
             println!(
                 "call {round} ({kind} tables, {call_kind} call), frame {}: differs",
                 n + 1
@@ -139,50 +232,84 @@ fn one_call(rng: &mut Rng, kind: &str, round: usize) -> bool {
     true
 }
 
-/// Times both on four kinds of calls, `rounds` times in turn, and prints the fastest of each.
-fn speed(seed: u64, count: usize, rounds: usize) {
-    println!("call       proved/s   Rust/s  ratio");
-    for (name, tables, call) in [
-        ("ordinary", "real", "steady"),
-        ("voice", "real", "voice"),
-        ("concealed", "real", "lost"),
-        ("loud", "uniform", "voice"),
-    ] {
+/// Times both on each class, `rounds` times in turn, and prints the sums of the fastest times of the parts.
+fn measure(seed: u64, rounds: u64) {
+    println!();
+    println!(
+        "measured: {TIMED} frames of each class, processor time, both in turn every {PART} frames, fastest of {rounds} rounds"
+    );
+    println!("class      saturating  level  proved, frames/s  Rust, frames/s  ratio");
+    for (name, kind, _) in CLASSES {
         let mut rng = Rng::new(seed);
-        let block = generate::tables(&mut rng, tables).expect("a kind of tables");
-        let call = generate::call(&mut rng, call, count, Some(100)).expect("a kind of call");
-        let (mut proved, mut rust) = (f64::INFINITY, f64::INFINITY);
+        let block = generate::tables(&mut rng, kind).expect("a kind of tables");
+        let tables = harness::tables(&block);
+        let call = speech::call(&mut rng, &tables, name, TIMED)
+            .or_else(|| generate::call(&mut rng, "voice", TIMED, Some(100)))
+            .expect("a kind of call");
+        let (saturated, level) = speech::saturated(&tables, &call);
+        let mut fastest = vec![[f64::INFINITY; 2]; TIMED / PART];
         for _ in 0..rounds {
-            proved = proved.min(time_proved(&block, &call));
-            rust = rust.min(time_rust(&block, &call));
+            round(&block, &call, &mut fastest);
         }
+        let proved: f64 = fastest.iter().map(|part| part[0]).sum();
+        let rust: f64 = fastest.iter().map(|part| part[1]).sum();
         let n = call.len() as f64;
+        let percent = 100.0 * saturated as f64 / n;
         println!(
-            "{name:10} {:8.0} {:8.0}  {:5.2}",
+            "{name:10} {percent:8.1} % {level:6.0} {:17.0} {:15.0}  {:5.2}",
             n / proved,
             n / rust,
             rust / proved
         );
     }
-}
-
-fn time_proved(block: &TableBlock, call: &[FrameLine]) -> f64 {
-    let begin = Instant::now();
-    let mut state = fresh(block);
-    for line in call {
-        black_box(frame(block, &mut state, black_box(line)));
+    println!(
+        "saturating: frames in which a first synthesis saturates. level: root mean square of the samples."
+    );
+    for (name, kind, what) in CLASSES {
+        println!("{name}: {what} ({kind} tables)");
     }
-    begin.elapsed().as_secs_f64()
 }
 
-fn time_rust(block: &TableBlock, call: &[FrameLine]) -> f64 {
+/// The processor time of this thread.
+fn seconds() -> f64 {
+    #[repr(C)]
+    struct Timespec {
+        seconds: i64,
+        nanoseconds: i64,
+    }
+    unsafe extern "C" {
+        fn clock_gettime(clock: i32, time: *mut Timespec) -> i32;
+    }
+    const THREAD_PROCESSOR_TIME: i32 = 3;
+    let mut time = Timespec {
+        seconds: 0,
+        nanoseconds: 0,
+    };
+    // SAFETY: the C library of 64-bit Linux writes these two numbers.
+    assert_eq!(
+        unsafe { clock_gettime(THREAD_PROCESSOR_TIME, &mut time) },
+        0
+    );
+    time.seconds as f64 + time.nanoseconds as f64 / 1e9
+}
+
+/// Decodes the call with both, part by part in turn, and lowers the times of the parts where they took less.
+fn round(block: &TableBlock, call: &[FrameLine], fastest: &mut [[f64; 2]]) {
     let tables = harness::tables(block);
-    let begin = Instant::now();
     let mut decoder = Decoder::new(&tables);
-    for line in call {
-        let mut samples = [0; FRAME_SAMPLES];
-        decoder.decode(black_box(line).frame(), &mut samples);
-        black_box(samples);
+    let mut state = fresh(block);
+    for (part, [proved, rust]) in call.chunks(PART).zip(fastest) {
+        let begin = seconds();
+        for line in part {
+            black_box(frame(block, &mut state, black_box(line)));
+        }
+        let middle = seconds();
+        for line in part {
+            let mut samples = [0; FRAME_SAMPLES];
+            decoder.decode(black_box(line).frame(), &mut samples);
+            black_box(samples);
+        }
+        *proved = proved.min(middle - begin);
+        *rust = rust.min(seconds() - middle);
     }
-    begin.elapsed().as_secs_f64()
 }
