@@ -170,6 +170,9 @@ static void of_line(void)
             check(line("(frame (lost))", &kind, p, n) == HOLDAMEK_LINE_ROOM && line("", &kind, p, n) == HOLDAMEK_LINE_ROOM,
                   "room for other than ten bytes is refused");
     CHECK(holdamek_line(NULL, 0, &kind, p, 10) == HOLDAMEK_LINE_FORM);
+    for (n = 37; n != 0; n *= 2)
+        check(holdamek_line(p, n, &kind, p + 1, 10) == HOLDAMEK_LINE_FORM, "an overlong line is refused unread");
+    CHECK(holdamek_line(p, (size_t)-1, &kind, p + 1, 10) == HOLDAMEK_LINE_FORM);
     CHECK(holdamek_line(NULL, 0, &kind, NULL, 0) == HOLDAMEK_LINE_ROOM);
     CHECK(kind == 77 && memcmp(p, before, sizeof p) == 0);
     CHECK(line("(frame (lost))", &kind, p, 10) == HOLDAMEK_OK && kind == HOLDAMEK_ERASED);

@@ -4,6 +4,17 @@
 //! samples of each before the postfilter. Its [`StateBlock`] can be saved between any two frames and resumed later, here or on
 //! another machine. [`Frame::parse`] reads a line of a call, and [`Counts`] counts its frames.
 //!
+//! ```
+//! use holdamek::{Decoder, Frame, TableBlock};
+//! # fn main() -> Result<(), Box<dyn std::error::Error>> {
+//! let tables = TableBlock::from_bytes(&std::fs::read("../examples/tables.g729")?)?;
+//! let mut decoder = Decoder::new(&tables)?;
+//! let samples = decoder.decode(&Frame::parse(b"(frame (lost))")?)?;
+//! assert_eq!(samples, [0; 80]);
+//! # Ok(())
+//! # }
+//! ```
+//!
 //! Nothing here panics, and nothing is allocated. What can be refused gives a [`Refusal`], and leaves everything as it was.
 
 mod ffi;

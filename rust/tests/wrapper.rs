@@ -166,3 +166,18 @@ fn refusals_have_their_numbers() {
         "refusal 9: the line isn't one of the four forms"
     );
 }
+
+#[test]
+fn threads_share_tables() {
+    let (tables, call) = (tables(), call());
+    std::thread::scope(|scope| {
+        for _ in 0..4 {
+            scope.spawn(|| {
+                let mut decoder = Decoder::new(&tables).unwrap();
+                for (frame, due) in call.iter().zip(PCM.lines()) {
+                    assert_eq!(text(&decoder.decode(frame).unwrap()), due);
+                }
+            });
+        }
+    });
+}

@@ -1,5 +1,6 @@
-// The six operations of 01 for other languages: C functions over pointers and lengths, each the proved function of its crate and nothing else.
-// A slice is a pointer and then a length in elements. Each returns 0 or the number of its refusal, which leaves all lent memory as it was.
+// The six operations of 01 for other languages: C functions over pointers and lengths, each the proved function of its crate.
+// A slice is a pointer and then a length in elements. Each returns 0 or the number of its refusal, which leaves all lent memory as it
+// was; what it answers beside its number goes to lent memory. include/holdamek.h says the same for C.
 ghost use mathlib.Core.Path.{_≡_};
 ghost use Rattle.tables.specs.Layout.{table-check};
 ghost use Rattle.bitstream.specs.Fields as fields;
