@@ -17,6 +17,9 @@
 //!
 //! Nothing here panics, and nothing is allocated. What can be refused gives a [`Refusal`], and leaves everything as it was.
 
+#![deny(unsafe_code)]
+
+#[allow(unsafe_code)]
 mod ffi;
 mod refusal;
 
