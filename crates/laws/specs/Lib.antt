@@ -3,3 +3,4 @@ pub mod Lists
 pub mod Loops
 pub mod Range
 pub mod Back
+pub mod Ints
