@@ -1,16 +1,18 @@
 // The gains of G.729: prediction (clause 3.9.1), decoding (clauses 3.9.2 and 4.1.5), an erased frame's (clauses 4.4.2 and 4.4.3), and
 // the factor of pitch sharpening. Each contract is an equation with a definition of specs/Gain.antt; `t` is the table block.
 ghost use mathlib.Core.Path.{_≡_};
+ghost use Prim.Native.Nat.{_^_, _<_, _≤_};
+ghost use lib.IntN.{_*ℤ_};
 ghost use Rattle.tables.specs.Layout.{log2};
-ghost use Rattle.basic_op.specs.Oper32b.{base2-log};
+ghost use Rattle.basic_op.specs.Oper32b.{log-fraction, base2-log};
 ghost use Rattle.gain.specs.Gain.{sharpening, energy, mean-and-energy, prediction, log2-gain, predict, row-ga, row-gb, pitch-gain, gamma, fixed-gain, gain-error, push, decode, conceal-pitch-gain, conceal-fixed-gain, error-sum, conceal-error, conceal};
 use basic_op::Log2;
 use basic_op::add;
-use basic_op::base2_log;
 use basic_op::base2_power;
 use basic_op::extract_h;
 use basic_op::extract_l;
 use basic_op::greater;
+use basic_op::interpolate_q15;
 use basic_op::join_high_low;
 use basic_op::l_add;
 use basic_op::l_mac;
@@ -21,6 +23,8 @@ use basic_op::lesser;
 use basic_op::low16;
 use basic_op::mult;
 use basic_op::multiply_split_by_16;
+use basic_op::norm_l;
+use basic_op::sat32;
 use basic_op::split_high_low;
 use basic_op::sub;
 use tables::Scalar;
@@ -50,25 +54,53 @@ pub fn sharpening(t: &[i16], gp: i16) -> i16
 
 // ---- prediction
 
-// The sum of the codevector's squares (equation (66)).
+fn square(x: i16) -> i64
+    ensures { λ r. ⌜ r ≡ x *ℤ x ⌝ }
+{
+    x as i64 * x as i64
+}
+
+// The sum of the codevector's squares (equation (66)): no square is negative, so it is enough to saturate at the end.
 fn energy(code: [i16; 40]) -> i32
     ensures { λ r. ⌜ r ≡ energy code ⌝ }
 {
-    let mut sum = 0i32;
+    let mut sum = 0i64;
     let mut k = 0;
     while k < 40 {
-        sum = l_mac(sum, code[k], code[k]);
+        sum += square(code[k]);
         k += 1;
     }
-    sum
+    sat32(sum * 2)
 }
 
-// The base-2 logarithm by the block's table.
+// The logarithm's fraction of a normalized value, 2^30 or more, from the two entries that it lies between.
+fn log_fraction(t: &[i16], m: u32) -> i16
+    requires { ⌜ (2 ^ 30 ≤ m) × (m < 2 ^ 31) ⌝ }
+    ensures { λ r. ⌜ r ≡ log-fraction m (log2 (now (t .entry))) ⌝ }
+{
+    let segment = (m / 33554432) as usize;
+    let weight = (m / 1024 % 32768) as i16;
+    let entry = tables::word(t, 1791 + segment);
+    let next = tables::word(t, 1792 + segment);
+    extract_h(interpolate_q15(entry, next, weight))
+}
+
+// The base-2 logarithm by the block's table, as `base2_log` has it, without a copy of the table.
 fn log(t: &[i16], value: i32) -> Log2
     ensures { λ r. ⌜ r ≡ base2-log value (log2 (now (t .entry))) ⌝ }
 {
-    let table = tables::log2(t);
-    base2_log(value, &table)
+    if value < 1 {
+        return Log2 {
+            integer: 0,
+            fraction: 0,
+        };
+    }
+    let left = norm_l(value);
+    let m = l_shl(value, left) as u32;
+    Log2 {
+        integer: 30 - left,
+        fraction: log_fraction(t, m),
+    }
 }
 
 // The mean energy less the codevector's, in dB.
