@@ -216,11 +216,12 @@ pub fn decode(t: &[i16], s: GainState, ga: u16, gb: u16, code: [i16; 40]) -> Gai
     ensures { λ r. ⌜ r ≡ decode (now (t .entry)) ga gb code s ⌝ }
 {
     let mem = s.mem;
+    let gc = fixed_gain(t, ga, gb, code, mem);
     let next = push(mem, gain_error(t, ga, gb));
     GainState {
         mem: next,
         gp: pitch_gain(t, ga, gb),
-        gc: fixed_gain(t, ga, gb, code, mem),
+        gc,
     }
 }
 

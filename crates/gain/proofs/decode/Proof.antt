@@ -14,11 +14,12 @@ returns c =
     let c2 = c1 .before in
     let c3 = c2 .before in
     rw (
-      came w16 (c .fixed-gain),
-      c .fixed-gain .ensures,
-      came w16 (c1 .pitch-gain) ∙ c1 .pitch-gain .ensures,
-      c2 .push .ensures,
-      came w16 (c3 .gain-error) ∙ c3 .gain-error .ensures,
+      came w16 (c .pitch-gain),
+      c .pitch-gain .ensures,
+      c1 .push .ensures,
+      came w16 (c2 .gain-error) ∙ c2 .gain-error .ensures,
+      came w16 (c3 .fixed-gain),
+      c3 .fixed-gain .ensures,
     )
 
 pub decode-spec : {M : Type 1} → statement M
