@@ -24,13 +24,9 @@ returns c =
     ∙ ap extract-h
     (came w32 i ∙ i .ensures
     ∙ rw (
-      came w16 (n .word2),
-      n .word2 .ensures,
-      came w16 (e .word),
-      e .word .ensures,
+      came w16 (n .word2) ∙ n .word2 .ensures ∙ log2-word (s .args .t .now) (m / 33554432 - 31) (1792 + m / 33554432) (omega arith) (omega arith),
+      came w16 (e .word) ∙ e .word .ensures ∙ log2-word (s .args .t .now) (m / 33554432 - 32) (1791 + m / 33554432) (omega arith) (omega arith),
       toZ-pos w16 (m / 1024 % 32768) (omega arith),
-      log2-word _ (m / 33554432 - 32) (1791 + m / 33554432) (omega arith) (omega arith),
-      log2-word _ (m / 33554432 - 31) (1792 + m / 33554432) (omega arith) (omega arith),
     ))
 
 pub log-fraction-spec : {M : Type 1} → statement M
