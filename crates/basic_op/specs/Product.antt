@@ -1,9 +1,9 @@
 -- Mpy_32_16 as one product: where the number's upper half is above -32768 no step of it saturates. Assumes nothing.
-use Prim.Native.Nat.{ℕ, zero, suc, _+_, _-_, _*_, _/_, _%_, _^_, _≤_, _<_}
+use Prim.Native.Nat.{ℕ, suc, _*_, _/_, _%_, _^_, _≤_, _<_}
 use mathlib.Core.Path.{_≡_, refl, sym, ap, _∙_}
 use native.Mathlib.Omega.{arith}
-use native.Mathlib.Nat.{mul-le-mul, le-trans, le-refl, mul-one}
-use lib.Dec.{lit<, lit≤}
+use native.Mathlib.Nat.{mul-le-mul, le-trans, mul-one}
+use lib.Dec.{lit<}
 use lib.IntN.{ℤ, pos, negsuc, negℤ, natAbs, _+ℤ_, _-ℤ_, _*ℤ_, +ℤ-idl, +ℤ-invr, *ℤ-comm}
 use lib.Signed.{mag, shrZ, natAbs-le}
 use mir.Syntax.{w16}

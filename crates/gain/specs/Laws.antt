@@ -1,19 +1,19 @@
 -- What the proofs of `gain` use of its definitions. Assumes nothing.
-use Prim.Native.Nat.{ℕ, _+_, _-_, _*_, _/_, _^_, _≤_, _<_}
+use Prim.Native.Nat.{ℕ, _+_, _*_, _^_, _≤_, _<_}
 use mathlib.Core.Path.{_≡_, refl, sym, ap, _∙_}
 use mathlib.Core.List.{List}
 use native.Mathlib.Omega.{arith}
 use native.Mathlib.Nat.{mul-le-mul}
-use lib.IntN.{ℤ, pos, negsuc, natAbs, _+ℤ_, _*ℤ_, *ℤ-comm}
+use lib.IntN.{ℤ, pos, negsuc, natAbs, _+ℤ_, _*ℤ_}
 use lib.Signed.{mag, natAbs-le}
 use mir.Syntax.{w16, w32, w64}
 use mir.Val.{SFits, toZ, ofZ, hbits}
 use mir.Facts.{sfits-widen}
 use Rattle.laws.specs.Back.{keep}
-use Rattle.laws.specs.Lists.{at, tab, at-tab}
+use Rattle.laws.specs.Lists.{at, at-tab}
 use Rattle.laws.specs.Loops.{steps, steps-none, steps-turn}
 use Rattle.tables.specs.Layout.{log2}
-use Rattle.basic_op.specs.Ops.{sat, sat32, l-mac, l-mult, l-add}
+use Rattle.basic_op.specs.Ops.{sat32, l-mac, l-mult, l-add}
 use Rattle.basic_op.specs.Laws.{sat-id, sat-sum}
 use Rattle.gain.specs.Gain.{energy}
 

@@ -1,12 +1,12 @@
 -- Sums and products of ℤ rearranged, and what a right shift takes out of a sum. Assumes nothing.
-use Prim.Native.Nat.{ℕ, zero, suc, _+_, _-_, _*_, _/_, _%_, _≤_, _<_}
-use mathlib.Core.Path.{_≡_, refl, sym, ap, _∙_, subst}
+use Prim.Native.Nat.{ℕ, zero, suc, _-_, _/_, _≤_, _<_}
+use mathlib.Core.Path.{_≡_, refl, sym, ap, _∙_}
 use mathlib.Core.Bool.{Bool, true, false, cond}
 use native.Mathlib.Omega.{arith}
 use native.Mathlib.Numerals.{add-one}
 use native.Mathlib.Nat.{div-eq-of-lt, div-eq-sub-div, add-div-right}
 use lib.Dec.{ltb}
-use lib.IntN.{ℤ, pos, negsuc, negℤ, sucℤ, predℤ, subℕ, _+ℤ_, _-ℤ_, _*ℤ_, suc-pred, pred-suc, +ℤ-sucℤ, +ℤ-predℤ, sucℤ-+ℤ, predℤ-+ℤ, +ℤ-idl, +ℤ-idr, +ℤ-assoc, +ℤ-comm, +ℤ-invr, +ℤ-invl, -ℤ-+ℤ-cancel, sucℤ-*ℤ, predℤ-*ℤ, zero-*ℤ, *ℤ-zero, *ℤ-comm, negℤ-+ℤ}
+use lib.IntN.{ℤ, pos, negsuc, negℤ, sucℤ, predℤ, _+ℤ_, _-ℤ_, _*ℤ_, pred-suc, +ℤ-sucℤ, +ℤ-predℤ, +ℤ-idl, +ℤ-idr, +ℤ-assoc, +ℤ-comm, +ℤ-invr, +ℤ-invl, -ℤ-+ℤ-cancel, sucℤ-*ℤ, predℤ-*ℤ, zero-*ℤ, *ℤ-comm}
 use lib.Signed.{shrZ}
 use borrow.Author.Tests.{ltb-true, ltb-false}
 
@@ -38,9 +38,6 @@ mul-add x y q = by-steps (λ (y : ℤ). (x +ℤ y) *ℤ q ≡ x *ℤ q +ℤ y *�
     down k h =
         ap (λ (z : ℤ). z *ℤ q) (+ℤ-predℤ x k) ∙ predℤ-*ℤ (x +ℤ k) q ∙ ap (λ (z : ℤ). z -ℤ q) h
         ∙ +ℤ-assoc (x *ℤ q) (k *ℤ q) (negℤ q) ∙ ap (λ (z : ℤ). x *ℤ q +ℤ z) (sym (predℤ-*ℤ k q))
-
-pub add-mul : (q x y : ℤ) → q *ℤ (x +ℤ y) ≡ q *ℤ x +ℤ q *ℤ y
-add-mul q x y = *ℤ-comm q (x +ℤ y) ∙ mul-add x y q ∙ ap (λ (z : ℤ). z +ℤ y *ℤ q) (*ℤ-comm x q) ∙ ap (λ (z : ℤ). q *ℤ x +ℤ z) (*ℤ-comm y q)
 
 neg-mul : (y q : ℤ) → negℤ y *ℤ q ≡ negℤ (y *ℤ q)
 neg-mul y q = sym (+ℤ-idl (negℤ y *ℤ q)) ∙ ap (λ (z : ℤ). z +ℤ negℤ y *ℤ q) (sym (+ℤ-invl (y *ℤ q)))

@@ -1,13 +1,11 @@
 -- `gain::energy` meets its contract: before turn k the sum is that of the first k squares, without saturation. Assumes nothing.
 use Prim.Native.Nat.{_-_, _≤_}
-use mathlib.Core.Path.{_≡_, _∙_}
+use mathlib.Core.Path.{_∙_}
 use native.Mathlib.Omega.{arith}
 use borrow.Author.Needs.{needs}
-use lib.IntN.{_*ℤ_}
 use mir.Syntax.{w16, w32, w64}
 use mir.Val.{toZ}
 use mir.Facts.{toZ-ofZ}
-use Rattle.laws.specs.Lists.{at}
 use Rattle.laws.specs.Back.{came, via}
 use Rattle.gain.specs.Laws.{Squares, squares-none, squares-turn, squares-fit, squares-end, twice-fits, energy-is}
 use Rattle.gain.proofs.energy.Statement.{statement}

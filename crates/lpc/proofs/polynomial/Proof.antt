@@ -20,7 +20,7 @@ a1-small : (c : tie.After-small-top) → mag (toZ w32 (ofZ w32 (c .small-top .re
 a1-small c = rw (came w32 (c .small-top)) (omega (arith, c .small-top .ensures .1))
 
 small-step-requires : tie.Need-small-step-requires
-small-step-requires c κs = omega (arith, a1-small (c))
+small-step-requires c κs = omega (arith, a1-small c)
 
 b1-small : (c : tie.After-small-step) → mag (toZ w32 (ofZ w32 (c .small-step .result))) ≤ 4 * 16777216 + 32
 b1-small c = rw (came w32 (c .small-step)) (omega (arith, c .small-step .ensures .1, a1-small (c .before)))

@@ -1,5 +1,5 @@
 -- `lpc::small_top` meets its contract: a difference that does not leave 32 bits. Assumes nothing.
-use mathlib.Core.Path.{_≡_, _∙_}
+use mathlib.Core.Path.{_≡_}
 use native.Mathlib.Omega.{arith}
 use lib.Dec.{lit<, lit≤}
 use lib.IntN.{pos, _-ℤ_, _*ℤ_}
