@@ -1,28 +1,20 @@
 -- Mpy_32_16 as one product: where the number's upper half is above -32768 no step of it saturates. Assumes nothing.
-use Prim.Native.Nat.{ℕ, suc, _*_, _/_, _%_, _^_, _≤_, _<_}
-use mathlib.Core.Path.{_≡_, refl, sym, ap, _∙_}
+use Prim.Native.Nat.{ℕ, suc, _*_, _%_, _^_, _≤_, _<_}
+use mathlib.Core.Path.{_≡_, sym, ap, _∙_}
 use native.Mathlib.Omega.{arith}
-use native.Mathlib.Nat.{mul-le-mul, le-trans, mul-one}
+use native.Mathlib.Nat.{mul-one}
 use lib.Dec.{lit<}
 use lib.IntN.{ℤ, pos, negsuc, negℤ, natAbs, _+ℤ_, _-ℤ_, _*ℤ_, +ℤ-idl, +ℤ-invr, *ℤ-comm}
 use lib.Signed.{mag, shrZ, natAbs-le}
 use mir.Syntax.{w16}
 use mir.ValLaws.{toZ-pos}
-use Rattle.laws.specs.Range.{abs-mul, mag-abs, mag-scale, floor-div}
+use Rattle.laws.specs.Range.{mag-scale, mag-word, mag-shr-is, floor-div}
 use Rattle.laws.specs.Ints.{add-swap, mul-add, mul-assoc, shr-split}
 use Rattle.basic_op.specs.Ops.{sat, l-mult, l-mac, l-msu, l-sub, l-add, mult, extract-h, extract-l, low16}
 use Rattle.basic_op.specs.Oper32b.{split-high-low, multiply-split-by-16, multiply-32-by-16}
 use Rattle.basic_op.specs.Laws.{sat-id}
 
 -- ---- ranges
-
-pub mag-shr-is : (z : ℤ) (m : ℕ) → mag (shrZ z m) ≡ mag z / m
-mag-shr-is (pos n) m = refl
-mag-shr-is (negsuc n) m = refl
-
--- a product with a word
-pub mag-word : (x q : ℤ) (n : ℕ) → natAbs x ≤ n → mag q < 32768 → mag (x *ℤ q) ≤ n * 32768
-mag-word x q n h k = le-trans (mag-abs (x *ℤ q)) (rw (abs-mul x q) (mul-le-mul h (natAbs-le q k)))
 
 double : (z : ℤ) → mag z ≤ 1073709056 → mag (z *ℤ pos 2) ≤ 2147483647
 double z h = let b : mag (z *ℤ pos 2) < 1073709057 * 2 = mag-scale z 2 1073709057 (lit< tt) (omega arith) in omega arith

@@ -5,12 +5,12 @@ use native.Mathlib.Omega.{arith}
 use lib.Dec.{lit<}
 use lib.IntN.{ℤ, pos, natAbs, _+ℤ_, _-ℤ_, _*ℤ_}
 use lib.Signed.{mag, shrZ, natAbs-le}
-use Rattle.laws.specs.Range.{mag-add, mag-sub, mag-scale}
+use Rattle.laws.specs.Range.{mag-add, mag-sub, mag-scale, mag-word, mag-shr-is}
 use Rattle.laws.specs.Ints.{mul-assoc}
 use Rattle.basic_op.specs.Ops.{sat, l-add, l-sub, l-shl, by-sign}
 use Rattle.basic_op.specs.Oper32b.{multiply-32-by-16}
 use Rattle.basic_op.specs.Laws.{sat-id}
-use Rattle.basic_op.specs.Product.{product-is, mag-word, mag-shr-is}
+use Rattle.basic_op.specs.Product.{product-is}
 use Rattle.lpc.specs.Lpc.{step, top}
 
 -- twice the product of a split number, as the code computes it
