@@ -8,7 +8,7 @@ use lib.Dec.{T, leb, ltb, leb→le, ltb→lt}
 use lib.IntN.{ℤ, pos, negsuc, negℤ, natAbs, _+ℤ_, _-ℤ_, _*ℤ_, +ℤ-assoc, +ℤ-comm}
 use lib.Signed.{mag, ltZ, leZ, shrZ, mag-shr}
 use borrow.Author.Needs.{needs}
-use borrow.Author.Tests.{lt-ltb, le-ltb, ltb-true, ne-eqb}
+use borrow.Author.Tests.{lt-ltb, le-ltb, ltb-true, ltb-false, ne-eqb}
 use mir.Syntax.{Width, w16, w32, w64}
 use mir.Val.{SFits, hbits}
 use mir.Facts.{sfits-widen, sfits-lit}
@@ -59,6 +59,29 @@ sat-top n a h = rw (lt-ltb n a h)
 sat-bottom : (n a : ℕ) → n < a → sat n (negsuc a) ≡ negsuc n
 unfolding sat
 sat-bottom n a h = rw (lt-ltb n a h)
+
+sat-full : (n a : ℕ) → n ≤ a → sat n (pos a) ≡ pos n
+sat-full n a h = go (ltb n a) refl
+  where
+    go : (t : Bool) → ltb n a ≡ t → sat n (pos a) ≡ pos n
+    go true p = sat-top n a (ltb-true n a p)
+    go false p = let l : a ≤ n = ltb-false n a p in sat-id n (pos a) l ∙ ap pos (omega arith)
+
+-- a saturating sum of numbers that are not negative is the lesser of their plain sum and the end
+pub sat-sum : (n a b : ℕ) → sat n (sat n (pos a) +ℤ sat n (pos b)) ≡ sat n (pos (a + b))
+sat-sum n a b = go (ltb n a) (ltb n b) refl refl
+  where
+    go : (s t : Bool) → ltb n a ≡ s → ltb n b ≡ t → sat n (sat n (pos a) +ℤ sat n (pos b)) ≡ sat n (pos (a + b))
+    go false false p q = rw (sat-id n (pos a) (ltb-false n a p), sat-id n (pos b) (ltb-false n b q))
+    go false true p q =
+        let k : n < b = ltb-true n b q in
+        rw (sat-id n (pos a) (ltb-false n a p), sat-top n b k) (sat-full n (a + n) (omega arith) ∙ sym (sat-full n (a + b) (omega arith)))
+    go true false p q =
+        let l : n < a = ltb-true n a p in
+        rw (sat-top n a l, sat-id n (pos b) (ltb-false n b q)) (sat-full n (n + b) (omega arith) ∙ sym (sat-full n (a + b) (omega arith)))
+    go true true p q =
+        let l : n < a = ltb-true n a p in
+        rw (sat-top n a l, sat-top n b (ltb-true n b q)) (sat-full n (n + n) (omega arith) ∙ sym (sat-full n (a + b) (omega arith)))
 
 -- scaled beyond the range: 0 stays, and all else is the end of its sign
 far : ℕ → ℤ → ℤ

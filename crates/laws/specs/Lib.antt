@@ -4,3 +4,4 @@ pub mod Loops
 pub mod Sums
 pub mod Range
 pub mod Back
+pub mod Ints
