@@ -10,6 +10,7 @@ mod replay;
 mod report;
 mod rng;
 mod selftest;
+mod speech;
 mod text;
 
 use g729::bitstream::SpeechParams;
@@ -29,6 +30,7 @@ const USAGE: &str = "usage:
   g729-oracle gen SEED tables KIND
   g729-oracle gen SEED state KIND
   g729-oracle gen SEED call KIND FRAMES [PERCENT]
+  g729-oracle speech SEED TABLES KIND FRAMES
   g729-oracle fresh TABLES
   g729-oracle formula
   g729-oracle fields [HEX ...]
@@ -61,6 +63,15 @@ fn dispatch(args: &[&str]) -> Outcome {
             finish(out)
         }
         ["gen", seed, ref what @ ..] => generate(&mut Rng::new(number(seed)?), what),
+        ["speech", seed, tables, kind, frames] => {
+            let tables = harness::tables(&read_tables(tables)?);
+            let mut rng = Rng::new(number(seed)?);
+            let call = speech::call(&mut rng, &tables, kind, number(frames)?);
+            let call = call.ok_or("no such kind")?;
+            let (saturated, level) = speech::saturated(&tables, &call);
+            eprintln!("{saturated} frames saturate, level {level:.0}");
+            print_call(&call)
+        }
         ["fresh", tables] => {
             let tables = harness::tables(&read_tables(tables)?);
             write(&blocks::bytes(&harness::save(&Decoder::new(&tables))))
@@ -103,15 +114,18 @@ fn generate(rng: &mut Rng, what: &[&str]) -> Outcome {
         )),
         ["call", kind, frames, ref percent @ ..] if percent.len() < 2 => {
             let parity = percent.first().map(|p| number(p)).transpose()?;
-            let call = generate::call(rng, kind, number(frames)?, parity).ok_or_else(unknown)?;
-            let mut out = output();
-            for line in call {
-                writeln!(out, "{}", line.text()).map_err(io_error)?;
-            }
-            finish(out)
+            print_call(&generate::call(rng, kind, number(frames)?, parity).ok_or_else(unknown)?)
         }
         _ => Err(USAGE.to_string()),
     }
+}
+
+fn print_call(call: &[FrameLine]) -> Outcome {
+    let mut out = output();
+    for line in call {
+        writeln!(out, "{}", line.text()).map_err(io_error)?;
+    }
+    finish(out)
 }
 
 /// Prints the tables by formula that the voice path reads.

@@ -5,6 +5,9 @@ ghost use Prim.Native.Nat.{_+_, _-_, _/_, _≤_, _<_};
 ghost use Rattle.laws.specs.Loops.{run};
 ghost use Rattle.adaptive.specs.Adaptive.{parity-ok, decode-t1, decode-t2, nat, t-min, track, carried, grown, first, second, erased, phase, limited, lag, interpolate, adaptive-vector};
 ghost use Rattle.adaptive.specs.Laws.{in-thirds};
+ghost use Rattle.adaptive.specs.Fast.{Goes};
+
+mod fast;
 
 // A pitch delay: an integer and thirds.
 pub struct Delay {
@@ -213,16 +216,26 @@ fn interpolate(b30: &[i16; 31], exc: &[i16; 234], phase: usize, x: usize) -> i16
     basic_op::round(s)
 }
 
-// Forty words from `from` on, each from those around k before it.
-fn vector(b30: &[i16; 31], exc: &mut [i16; 234], from: usize, k: usize, phase: usize)
-    requires { ⌜ (phase ≤ 2) × ((10 ≤ k) × ((k + 9 ≤ from) × (from + 40 ≤ 234))) ⌝ }
-    ensures { λ r. ⌜ now (exc .exit) ≡ run (λ n e. interpolate (now (b30 .entry)) phase (from + n - k) e) from 40 (now (exc .entry)) ⌝ }
+// The words of a subframe from `done` on, each from those around k before it.
+fn rest(b30: &[i16; 31], exc: &mut [i16; 234], from: usize, k: usize, phase: usize, done: usize)
+    requires { ⌜ (phase ≤ 2) × ((10 ≤ k) × ((k + 9 ≤ from) × ((from + 40 ≤ 234) × (done ≤ 40)))) ⌝ }
+    ensures { λ r. ⌜ Goes (λ n e. interpolate (now (b30 .entry)) phase (from + n - k) e) from done 40 (now (exc .entry)) (now (exc .exit)) ⌝ }
 {
-    let mut n = 0;
+    let mut n = done;
     while n < 40 {
         exc[from + n] = interpolate(b30, exc, phase, from + n - k);
         n += 1;
     }
+}
+
+// Forty words from `from` on: the first ones without saturation, as far as that goes.
+fn vector(b30: &[i16; 31], exc: &mut [i16; 234], from: usize, k: usize, phase: usize)
+    requires { ⌜ (phase ≤ 2) × ((10 ≤ k) × ((k + 9 ≤ from) × (from + 40 ≤ 234))) ⌝ }
+    ensures { λ r. ⌜ now (exc .exit) ≡ run (λ n e. interpolate (now (b30 .entry)) phase (from + n - k) e) from 40 (now (exc .entry)) ⌝ }
+{
+    let c = fast::taps(b30, phase);
+    let done = fast::first_words(&c, exc, from, k);
+    rest(b30, exc, from, k, phase, done);
 }
 
 // Equation (40): the adaptive-codebook vector at delay t0 + frac / 3, written over its subframe of the excitation.

@@ -5,15 +5,16 @@ use mathlib.Core.Bool.{Bool, true, false, cond, not}
 use native.Mathlib.Omega.{arith}
 use native.Mathlib.Nat.{suc-mul, zero-mul, le-refl, le-trans, lt-of-lt-of-le, lt-of-le-of-lt}
 use lib.Dec.{T, leb, ltb, leb→le, ltb→lt}
-use lib.IntN.{ℤ, pos, negsuc, negℤ, natAbs, _+ℤ_, _-ℤ_, _*ℤ_}
+use lib.IntN.{ℤ, pos, negsuc, negℤ, natAbs, _+ℤ_, _-ℤ_, _*ℤ_, +ℤ-assoc, +ℤ-comm}
 use lib.Signed.{mag, ltZ, leZ, shrZ, mag-shr}
 use borrow.Author.Needs.{needs}
-use borrow.Author.Tests.{lt-ltb, le-ltb, ltb-true, ne-eqb}
+use borrow.Author.Tests.{lt-ltb, le-ltb, ltb-true, ltb-false, ne-eqb}
 use mir.Syntax.{Width, w16, w32, w64}
 use mir.Val.{SFits, hbits}
 use mir.Facts.{sfits-widen, sfits-lit}
-use Rattle.basic_op.specs.Ops.{sat, sat16, sat32, add, sub, l-mult, l-add, l-sub, l-mac, l-msu, mult, by-sign, rounded}
-use Rattle.laws.specs.Range.{within, fits-add, fits-sub, fits-mul, fits-shr}
+use Rattle.basic_op.specs.Ops.{sat, sat16, sat32, add, sub, l-mult, l-add, l-sub, l-mac, l-msu, mult, extract-h, round, by-sign, rounded}
+use Rattle.laws.specs.Sums.{abs-add}
+use Rattle.laws.specs.Range.{mag-abs, within, fits-add, fits-sub, fits-mul, fits-shr}
 
 -- ---- `sat`, by the code's tests on y, which is z read back from its bits
 
@@ -58,6 +59,29 @@ sat-top n a h = rw (lt-ltb n a h)
 sat-bottom : (n a : ℕ) → n < a → sat n (negsuc a) ≡ negsuc n
 unfolding sat
 sat-bottom n a h = rw (lt-ltb n a h)
+
+sat-full : (n a : ℕ) → n ≤ a → sat n (pos a) ≡ pos n
+sat-full n a h = go (ltb n a) refl
+  where
+    go : (t : Bool) → ltb n a ≡ t → sat n (pos a) ≡ pos n
+    go true p = sat-top n a (ltb-true n a p)
+    go false p = let l : a ≤ n = ltb-false n a p in sat-id n (pos a) l ∙ ap pos (omega arith)
+
+-- a saturating sum of numbers that are not negative is the lesser of their plain sum and the end
+pub sat-sum : (n a b : ℕ) → sat n (sat n (pos a) +ℤ sat n (pos b)) ≡ sat n (pos (a + b))
+sat-sum n a b = go (ltb n a) (ltb n b) refl refl
+  where
+    go : (s t : Bool) → ltb n a ≡ s → ltb n b ≡ t → sat n (sat n (pos a) +ℤ sat n (pos b)) ≡ sat n (pos (a + b))
+    go false false p q = rw (sat-id n (pos a) (ltb-false n a p), sat-id n (pos b) (ltb-false n b q))
+    go false true p q =
+        let k : n < b = ltb-true n b q in
+        rw (sat-id n (pos a) (ltb-false n a p), sat-top n b k) (sat-full n (a + n) (omega arith) ∙ sym (sat-full n (a + b) (omega arith)))
+    go true false p q =
+        let l : n < a = ltb-true n a p in
+        rw (sat-top n a l, sat-id n (pos b) (ltb-false n b q)) (sat-full n (n + b) (omega arith) ∙ sym (sat-full n (a + b) (omega arith)))
+    go true true p q =
+        let l : n < a = ltb-true n a p in
+        rw (sat-top n a l, sat-top n b (ltb-true n b q)) (sat-full n (n + n) (omega arith) ∙ sym (sat-full n (a + b) (omega arith)))
 
 -- scaled beyond the range: 0 stays, and all else is the end of its sign
 far : ℕ → ℤ → ℤ
@@ -113,3 +137,34 @@ rounded-far x k h = rw (ne-eqb k 0 (λ e. omega arith), lt-ltb 31 k h)
 pub rounded-in : (x : ℤ) (k : ℕ) → (k ≡ 0 → ⊥) → k ≤ 31 → shrZ (shrZ x (2 ^ (k - 1)) +ℤ pos 1) 2 ≡ rounded x k
 unfolding rounded
 rounded-in x k n h = rw (ne-eqb k 0 n, le-ltb 31 k h)
+
+-- ---- doubles that stay below 2 ^ 31: no step of `l-mac` or `round` saturates
+
+twice : (z : ℤ) → pos 2 *ℤ z ≡ z +ℤ z
+twice (pos a) = ap pos (omega arith)
+twice (negsuc a) = ap (λ (n : ℕ). negℤ (pos n)) two
+  where
+    two : 2 * suc a ≡ suc (suc (a + a))
+    two = omega arith
+
+both : (a b : ℤ) → a +ℤ a +ℤ (b +ℤ b) ≡ a +ℤ b +ℤ (a +ℤ b)
+both a b = +ℤ-assoc a a (b +ℤ b) ∙ ap (λ (z : ℤ). a +ℤ z) (sym (+ℤ-assoc a b b) ∙ +ℤ-comm (a +ℤ b) b) ∙ sym (+ℤ-assoc a b (a +ℤ b))
+
+sat-twice : (z : ℤ) → natAbs z ≤ 1073741823 → sat32 (z +ℤ z) ≡ z +ℤ z
+sat-twice z h = sat-id 2147483647 (z +ℤ z) (omega (arith, mag-abs (z +ℤ z), abs-add z z))
+
+-- l-mac on the double of p gives the double of p + x y
+pub mac-twice : (p x y : ℤ) (a b : ℕ) → natAbs p ≤ a → natAbs (x *ℤ y) ≤ b → a + b ≤ 1073741823 → l-mac (p +ℤ p) x y ≡ p +ℤ x *ℤ y +ℤ (p +ℤ x *ℤ y)
+unfolding l-mac l-add l-mult
+mac-twice p x y a b h k l =
+    rw (twice (x *ℤ y), sat-twice (x *ℤ y) (omega arith), both p (x *ℤ y)) (sat-twice (p +ℤ x *ℤ y) (omega (arith, abs-add p (x *ℤ y))))
+
+shr-twice : (z : ℤ) → shrZ (z +ℤ z) 65536 ≡ shrZ z 32768
+shr-twice (pos a) = ap pos (omega arith)
+shr-twice (negsuc a) = ap negsuc (omega arith)
+
+-- a double rounded is a shift of the single
+pub round-twice : (z : ℤ) → natAbs z ≤ 1073725439 → round (z +ℤ z) ≡ shrZ (z +ℤ pos 16384) (2 ^ 15)
+unfolding round l-add extract-h
+round-twice z h =
+    rw (both z (pos 16384), sat-twice (z +ℤ pos 16384) (omega (arith, abs-add z (pos 16384)))) (shr-twice (z +ℤ pos 16384))

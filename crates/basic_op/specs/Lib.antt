@@ -4,5 +4,6 @@ pub mod Oper32b
 pub mod Laws
 pub mod Norm
 pub mod Low
+pub mod Product
 pub mod Log
 pub mod Values

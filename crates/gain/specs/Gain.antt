@@ -67,17 +67,21 @@ pitch-gain t ga gb = add (gain-ga t (row-ga t ga) 0) (gain-gb t (row-gb t gb) 0)
 unfoldable pub gamma : List ℤ → ℕ → ℕ → ℤ
 gamma t ga gb = l-add (gain-ga t (row-ga t ga) 1) (gain-gb t (row-gb t gb) 1)
 
--- equation (74), Q1: the predicted gain times the correction factor, of which the 16 low bits in Q12 are taken
-unfoldable pub fixed-gain : List ℤ → ℕ → ℕ → List ℤ → List ℤ → ℤ
-fixed-gain t ga gb code mem =
-    let p = predict t code mem in
-    extract-h (l-shr (l-mult (p .mantissa) (extract-l (l-shr (gamma t ga gb) (pos 1)))) (sub (p .exponent) (pos 4)))
+-- equation (74), Q1: the predicted gain p times the correction factor g, of which the 16 low bits in Q12 are taken
+abbrev pub fixed-gain-of : Predicted → ℤ → ℤ
+fixed-gain-of p g = extract-h (l-shr (l-mult (p .mantissa) (extract-l (l-shr g (pos 1)))) (sub (p .exponent) (pos 4)))
 
--- equation (72), Q10: the prediction error in dB, 20 log10 of the correction factor, which goes into the memory
-unfoldable pub gain-error : List ℤ → ℕ → ℕ → ℤ
-gain-error t ga gb =
-    let e = base2-log (gamma t ga gb) (log2 t) in
+unfoldable pub fixed-gain : List ℤ → ℕ → ℕ → List ℤ → List ℤ → ℤ
+fixed-gain t ga gb code mem = fixed-gain-of (predict t code mem) (gamma t ga gb)
+
+-- equation (72), Q10: the prediction error in dB, 20 log10 of the correction factor g, which goes into the memory
+abbrev pub gain-error-of : List ℤ → ℤ → ℤ
+gain-error-of t g =
+    let e = base2-log g (log2 t) in
     mult (extract-h (l-shl (join-high-low (sub (e .integer) (pos 13)) (e .fraction)) (pos 13))) (scalar t GainUpdateLog2ToDb)
+
+unfoldable pub gain-error : List ℤ → ℕ → ℕ → ℤ
+gain-error t ga gb = gain-error-of t (gamma t ga gb)
 
 -- ---- the state: the last four errors, newest first, and the last two gains
 

@@ -1,16 +1,19 @@
 // The gains of G.729: prediction (clause 3.9.1), decoding (clauses 3.9.2 and 4.1.5), an erased frame's (clauses 4.4.2 and 4.4.3), and
 // the factor of pitch sharpening. Each contract is an equation with a definition of specs/Gain.antt; `t` is the table block.
 ghost use mathlib.Core.Path.{_≡_};
-ghost use Rattle.tables.specs.Layout.{log2};
-ghost use Rattle.basic_op.specs.Oper32b.{base2-log};
-ghost use Rattle.gain.specs.Gain.{sharpening, energy, mean-and-energy, prediction, log2-gain, predict, row-ga, row-gb, pitch-gain, gamma, fixed-gain, gain-error, push, decode, conceal-pitch-gain, conceal-fixed-gain, error-sum, conceal-error, conceal};
+ghost use Prim.Native.Nat.{_^_, _<_, _≤_};
+ghost use lib.IntN.{_*ℤ_};
+ghost use Rattle.tables.specs.Layout.{gain-ga, gain-gb, log2};
+ghost use Rattle.basic_op.specs.Ops.{add, l-add};
+ghost use Rattle.basic_op.specs.Oper32b.{log-fraction, base2-log};
+ghost use Rattle.gain.specs.Gain.{sharpening, energy, mean-and-energy, prediction, log2-gain, predict, row-ga, row-gb, fixed-gain-of, gain-error-of, push, decode, conceal-pitch-gain, conceal-fixed-gain, error-sum, conceal-error, conceal};
 use basic_op::Log2;
 use basic_op::add;
-use basic_op::base2_log;
 use basic_op::base2_power;
 use basic_op::extract_h;
 use basic_op::extract_l;
 use basic_op::greater;
+use basic_op::interpolate_q15;
 use basic_op::join_high_low;
 use basic_op::l_add;
 use basic_op::l_mac;
@@ -21,6 +24,8 @@ use basic_op::lesser;
 use basic_op::low16;
 use basic_op::mult;
 use basic_op::multiply_split_by_16;
+use basic_op::norm_l;
+use basic_op::sat32;
 use basic_op::split_high_low;
 use basic_op::sub;
 use tables::Scalar;
@@ -50,25 +55,53 @@ pub fn sharpening(t: &[i16], gp: i16) -> i16
 
 // ---- prediction
 
-// The sum of the codevector's squares (equation (66)).
+fn square(x: i16) -> i64
+    ensures { λ r. ⌜ r ≡ x *ℤ x ⌝ }
+{
+    x as i64 * x as i64
+}
+
+// The sum of the codevector's squares (equation (66)): no square is negative, so it is enough to saturate at the end.
 fn energy(code: [i16; 40]) -> i32
     ensures { λ r. ⌜ r ≡ energy code ⌝ }
 {
-    let mut sum = 0i32;
+    let mut sum = 0i64;
     let mut k = 0;
     while k < 40 {
-        sum = l_mac(sum, code[k], code[k]);
+        sum += square(code[k]);
         k += 1;
     }
-    sum
+    sat32(sum * 2)
 }
 
-// The base-2 logarithm by the block's table.
+// The logarithm's fraction of a normalized value, 2^30 or more, from the two entries that it lies between.
+fn log_fraction(t: &[i16], m: u32) -> i16
+    requires { ⌜ (2 ^ 30 ≤ m) × (m < 2 ^ 31) ⌝ }
+    ensures { λ r. ⌜ r ≡ log-fraction m (log2 (now (t .entry))) ⌝ }
+{
+    let segment = (m / 33554432) as usize;
+    let weight = (m / 1024 % 32768) as i16;
+    let entry = tables::word(t, 1791 + segment);
+    let next = tables::word(t, 1792 + segment);
+    extract_h(interpolate_q15(entry, next, weight))
+}
+
+// The base-2 logarithm by the block's table, as `base2_log` has it, without a copy of the table.
 fn log(t: &[i16], value: i32) -> Log2
     ensures { λ r. ⌜ r ≡ base2-log value (log2 (now (t .entry))) ⌝ }
 {
-    let table = tables::log2(t);
-    base2_log(value, &table)
+    if value < 1 {
+        return Log2 {
+            integer: 0,
+            fraction: 0,
+        };
+    }
+    let left = norm_l(value);
+    let m = l_shl(value, left) as u32;
+    Log2 {
+        integer: 30 - left,
+        fraction: log_fraction(t, m),
+    }
 }
 
 // The mean energy less the codevector's, in dB.
@@ -134,39 +167,36 @@ fn row_gb(t: &[i16], gb: u16) -> u16
     low16(tables::map_gb(t, gb % 16)) % 16
 }
 
-// The pitch gain (equation (73)).
-fn pitch_gain(t: &[i16], ga: u16, gb: u16) -> i16
-    ensures { λ r. ⌜ r ≡ pitch-gain (now (t .entry)) ga gb ⌝ }
+// The pitch gain of two rows (equation (73)).
+fn pitch_gain(t: &[i16], a: u16, b: u16) -> i16
+    ensures { λ r. ⌜ r ≡ add (gain-ga (now (t .entry)) a 0) (gain-gb (now (t .entry)) b 0) ⌝ }
 {
-    let a = tables::gain_ga(t, row_ga(t, ga), 0);
-    let b = tables::gain_gb(t, row_gb(t, gb), 0);
-    add(a, b)
+    add(tables::gain_ga(t, a, 0), tables::gain_gb(t, b, 0))
 }
 
-// The correction factor of the fixed gain (equation (74)), in 32 bits.
-fn gamma(t: &[i16], ga: u16, gb: u16) -> i32
-    ensures { λ r. ⌜ r ≡ gamma (now (t .entry)) ga gb ⌝ }
+// The correction factor of the fixed gain of two rows (equation (74)), in 32 bits.
+fn gamma(t: &[i16], a: u16, b: u16) -> i32
+    ensures { λ r. ⌜ r ≡ l-add (gain-ga (now (t .entry)) a 1) (gain-gb (now (t .entry)) b 1) ⌝ }
 {
-    let a = tables::gain_ga(t, row_ga(t, ga), 1);
-    let b = tables::gain_gb(t, row_gb(t, gb), 1);
-    l_add(a as i32, b as i32)
+    let first = tables::gain_ga(t, a, 1);
+    let second = tables::gain_gb(t, b, 1);
+    l_add(first as i32, second as i32)
 }
 
-// The fixed gain (equation (74)).
-fn fixed_gain(t: &[i16], ga: u16, gb: u16, code: [i16; 40], mem: [i16; 4]) -> i16
-    ensures { λ r. ⌜ r ≡ fixed-gain (now (t .entry)) ga gb code mem ⌝ }
+// The fixed gain, from the predicted one and its correction factor (equation (74)).
+fn fixed_gain(p: Predicted, g: i32) -> i16
+    ensures { λ r. ⌜ r ≡ fixed-gain-of p g ⌝ }
 {
-    let p = predict(t, code, mem);
-    let factor = extract_l(l_shr(gamma(t, ga, gb), 1));
+    let factor = extract_l(l_shr(g, 1));
     let shift = sub(p.exponent, 4);
     extract_h(l_shr(l_mult(p.mantissa, factor), shift))
 }
 
-// The prediction error of the received gain (equation (72)).
-fn gain_error(t: &[i16], ga: u16, gb: u16) -> i16
-    ensures { λ r. ⌜ r ≡ gain-error (now (t .entry)) ga gb ⌝ }
+// The prediction error of the received gain, by its correction factor (equation (72)).
+fn gain_error(t: &[i16], g: i32) -> i16
+    ensures { λ r. ⌜ r ≡ gain-error-of (now (t .entry)) g ⌝ }
 {
-    let e = log(t, gamma(t, ga, gb));
+    let e = log(t, g);
     let l = join_high_low(sub(e.integer, 13), e.fraction);
     let factor = scalars(t, Scalar::GainUpdateLog2ToDb);
     mult(extract_h(l_shl(l, 13)), factor)
@@ -184,11 +214,15 @@ pub fn decode(t: &[i16], s: GainState, ga: u16, gb: u16, code: [i16; 40]) -> Gai
     ensures { λ r. ⌜ r ≡ decode (now (t .entry)) ga gb code s ⌝ }
 {
     let mem = s.mem;
-    let next = push(mem, gain_error(t, ga, gb));
+    let p = predict(t, code, mem);
+    let a = row_ga(t, ga);
+    let b = row_gb(t, gb);
+    let g = gamma(t, a, b);
+    let next = push(mem, gain_error(t, g));
     GainState {
         mem: next,
-        gp: pitch_gain(t, ga, gb),
-        gc: fixed_gain(t, ga, gb, code, mem),
+        gp: pitch_gain(t, a, b),
+        gc: fixed_gain(p, g),
     }
 }
 

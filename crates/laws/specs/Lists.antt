@@ -4,9 +4,12 @@ use mathlib.Core.List.{List, [], _∷_, _++_, append-nil}
 use Prim.Native.Nat.{ℕ, zero, suc, _+_, _≤_, _<_}
 use native.Mathlib.Numerals.{add-one}
 use native.Mathlib.Omega.{arith}
+use mathlib.Core.Bool.{Bool, true, false}
+use lib.Dec.{ltb}
+use borrow.Author.Tests.{ltb-true, ltb-false}
 use lib.IntN.{ℤ, pos}
-use lib.ListN.{length, take, drop, getD, set, length-append, length-drop, drop-of-length-le}
-use lib.Seq.{drop-cons, append-snoc, set-at, drop-length, take-suc, take-all, getD-drop, take-at, drop-at}
+use lib.ListN.{length, take, drop, getD, set, length-append, length-drop, drop-of-length-le, List·getD-append}
+use lib.Seq.{drop-cons, append-snoc, set-at, drop-length, take-suc, take-all, getD-drop, take-at, drop-at, getD-at}
 
 -- the word at place k; 0 past the end
 abbrev pub at : List ℤ → ℕ → ℤ
@@ -21,6 +24,20 @@ pub length-tab : (n : ℕ) (f : ℕ → ℤ) → length (tab n f) ≡ n
 unfolding tab
 length-tab zero f = refl
 length-tab (suc n) f = length-append (tab n f) (f n ∷ []) ∙ ap (λ (k : ℕ). k + 1) (length-tab n f) ∙ add-one n
+
+-- its word k
+pub at-tab : (f : ℕ → ℤ) (n k : ℕ) → k < n → at (tab n f) k ≡ f k
+unfolding tab
+at-tab f zero k h = absurd (omega arith)
+at-tab f (suc n) k h = go (ltb k n) refl (at-tab f n k)
+  where
+    go : (t : Bool) → ltb k n ≡ t → (k < n → at (tab n f) k ≡ f k) → at (tab n f ++ (f n ∷ [])) k ≡ f k
+    go true e g =
+        let l : k < length (tab n f) = omega (arith, length-tab n f, ltb-true k n e) in
+        List·getD-append (tab n f) (f n ∷ []) (pos 0) k l ∙ g (ltb-true k n e)
+    go false e g =
+        let q : k ≡ n = omega (arith, ltb-false k n e) in
+        rw q (getD-at (tab n f) (f n) [] (pos 0) n (length-tab n f))
 
 -- ---- a loop that fills a list: the first n words are those of tab n f
 
@@ -88,3 +105,13 @@ next p q t v e g = g ∙ rw e
 -- the last part
 pub whole : (p q : List ℤ) (n : ℕ) → take n q ≡ p → length q ≡ n → q ≡ p
 whole p q n e h = sym (take-all n q (omega arith)) ∙ e
+
+-- ---- a word stored
+
+-- what holds of the word stored, and held of word k, holds of word k afterwards
+pub at-set : (P : ℤ → Type 0) (l : List ℤ) (i k : ℕ) (v : ℤ) → P v → P (at l k) → P (at (set l i v) k)
+at-set P [] i k v p q = q
+at-set P (x ∷ l) zero zero v p q = p
+at-set P (x ∷ l) zero (suc k) v p q = q
+at-set P (x ∷ l) (suc i) zero v p q = q
+at-set P (x ∷ l) (suc i) (suc k) v p q = at-set P l i k v p q

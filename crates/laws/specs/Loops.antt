@@ -36,6 +36,12 @@ steps-end f n m s₀ s g h = rw h at g
 pub steps-then {ℓ} : {A B : Type ℓ} (g : A → B) (f : ℕ → A → A) (n m : ℕ) (s₀ s : A) (r : B) → s ≡ steps f n s₀ → n ≡ m → r ≡ g s → r ≡ g (steps f m s₀)
 steps-then g f n m s₀ s r e h k = k ∙ ap g (steps-end f n m s₀ s e h)
 
+-- loops whose steps are equal
+pub steps-same {ℓ} : {A : Type ℓ} (f g : ℕ → A → A) (n : ℕ) (s : A) → ((j : ℕ) → j < n → (t : A) → f j t ≡ g j t) → steps f n s ≡ steps g n s
+unfolding steps
+steps-same f g zero s h = refl
+steps-same f g (suc n) s h = h n (omega arith) (steps f n s) ∙ ap (g n) (steps-same f g n s (λ j k t. h j (omega arith) t))
+
 -- steps that change nothing
 pub steps-still {ℓ} : {A : Type ℓ} (f : ℕ → A → A) (n : ℕ) (s : A) → ((k : ℕ) → k < n → f k s ≡ s) → steps f n s ≡ s
 unfolding steps

@@ -2,55 +2,87 @@
 // The five stages of the recursion are written out: each is one coefficient longer than the one before.
 ghost use mathlib.Core.Path.{_≡_};
 ghost use mathlib.Core.List.{[], _∷_};
-ghost use Prim.Native.Nat.{_<_};
+ghost use Prim.Native.Nat.{_+_, _*_, _<_, _≤_};
+ghost use lib.IntN.{pos, _*ℤ_};
+ghost use lib.Signed.{mag};
 ghost use Rattle.laws.specs.Lists.{tab};
 ghost use Rattle.basic_op.specs.Ops.{l-add, l-sub};
+ghost use Rattle.basic_op.specs.Oper32b.{multiply-32-by-16};
 ghost use Rattle.lpc.specs.Lpc.{step, top, polynomial, f1-prime, f2-prime, half-q12, coefficient, lsp-to-lp};
 use basic_op::extract_l;
 use basic_op::l_add;
 use basic_op::l_shl;
 use basic_op::l_shr_r;
 use basic_op::l_sub;
-use basic_op::multiply_32_by_16;
+use basic_op::sar32;
+use basic_op::sar64;
+use basic_op::sat32;
+
+// 2 q v as one product. Where v is above -2^31 + 2^16 no step of Mpy_32_16 saturates.
+fn twice_product(v: i32, q: i16) -> i64
+    requires { ⌜ mag v < 2147418112 ⌝ }
+    ensures { λ r. ⌜ r ≡ multiply-32-by-16 v q *ℤ pos 2 ⌝ }
+{
+    sar64(sar32(v, 1) as i64 * q as i64, 15) * 4
+}
 
 // A coefficient of a stage between the first and the highest: f(j) - 2 q f(j - 1) + f(j - 2) of the stage before.
 fn step(previous: i32, q: i16, same: i32, older: i32) -> i32
+    requires { ⌜ mag previous < 2147418112 ⌝ }
     ensures { λ r. ⌜ r ≡ step previous q same older ⌝ }
 {
-    let doubled = l_shl(multiply_32_by_16(previous, q), 1);
+    let doubled = sat32(twice_product(previous, q));
     l_add(l_sub(same, doubled), older)
 }
 
 // The highest coefficient of a stage: 2 f(j - 2) - 2 q f(j - 1).
 fn top(previous: i32, q: i16, older: i32) -> i32
+    requires { ⌜ mag previous < 2147418112 ⌝ }
     ensures { λ r. ⌜ r ≡ top previous q older ⌝ }
 {
-    let doubled = l_shl(multiply_32_by_16(previous, q), 1);
+    let doubled = sat32(twice_product(previous, q));
     l_sub(l_shl(older, 1), doubled)
 }
 
-// F1 or F2 from its five LSPs, a stage a paragraph.
+// `step` where the coefficients are so small that no sum saturates, with the bound that the next stage needs.
+fn small_step(previous: i32, q: i16, same: i32, older: i32) -> i32
+    requires { ⌜ 2 * mag previous + mag same + mag older + 16 < 2147483648 ⌝ }
+    ensures { λ r. ⌜ (r ≡ step previous q same older) × (mag r ≤ 2 * mag previous + mag same + mag older + 16) ⌝ }
+{
+    (same as i64 - twice_product(previous, q) + older as i64) as i32
+}
+
+// `top`, likewise.
+fn small_top(previous: i32, q: i16, older: i32) -> i32
+    requires { ⌜ 2 * mag previous + 2 * mag older + 16 < 2147483648 ⌝ }
+    ensures { λ r. ⌜ (r ≡ top previous q older) × (mag r ≤ 2 * mag previous + 2 * mag older + 16) ⌝ }
+{
+    (older as i64 * 2 - twice_product(previous, q)) as i32
+}
+
+// F1 or F2 from its five LSPs, a stage a paragraph. Whatever the LSPs are, the coefficients grow no faster than those of (1 + z)^2n:
+// 2; 4, 6; 6, 15, 20; 8, 28, 56, 70; 10, 45, 120, 210, 252. From 128 on a sum may saturate, so in the last two alone.
 fn polynomial(q1: i16, q2: i16, q3: i16, q4: i16, q5: i16) -> [i32; 6]
     ensures { λ r. ⌜ r ≡ polynomial (q1 ∷ q2 ∷ q3 ∷ q4 ∷ q5 ∷ []) ⌝ }
 {
     let unit: i32 = 16777216;
-    let a1 = top(unit, q1, 0);
+    let a1 = small_top(unit, q1, 0);
 
-    let b1 = step(unit, q2, a1, 0);
-    let b2 = top(a1, q2, unit);
+    let b1 = small_step(unit, q2, a1, 0);
+    let b2 = small_top(a1, q2, unit);
 
-    let c1 = step(unit, q3, b1, 0);
-    let c2 = step(b1, q3, b2, unit);
-    let c3 = top(b2, q3, b1);
+    let c1 = small_step(unit, q3, b1, 0);
+    let c2 = small_step(b1, q3, b2, unit);
+    let c3 = small_top(b2, q3, b1);
 
-    let d1 = step(unit, q4, c1, 0);
-    let d2 = step(c1, q4, c2, unit);
-    let d3 = step(c2, q4, c3, c1);
-    let d4 = top(c3, q4, c2);
+    let d1 = small_step(unit, q4, c1, 0);
+    let d2 = small_step(c1, q4, c2, unit);
+    let d3 = small_step(c2, q4, c3, c1);
+    let d4 = small_top(c3, q4, c2);
 
-    let e1 = step(unit, q5, d1, 0);
-    let e2 = step(d1, q5, d2, unit);
-    let e3 = step(d2, q5, d3, d1);
+    let e1 = small_step(unit, q5, d1, 0);
+    let e2 = small_step(d1, q5, d2, unit);
+    let e3 = small_step(d2, q5, d3, d1);
     let e4 = step(d3, q5, d4, d2);
     let e5 = top(d4, q5, d3);
     [unit, e1, e2, e3, e4, e5]

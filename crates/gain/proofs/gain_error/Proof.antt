@@ -4,8 +4,8 @@ use Prim.Native.Nat.{_<_}
 use borrow.Author.Needs.{needs}
 use lib.Signed.{mag}
 use mir.Syntax.{w16, w32}
+use mir.Facts.{toZ-ofZ}
 use Rattle.laws.specs.Back.{came, via}
-use Rattle.gain.specs.Gain.{gain-error}
 use Rattle.gain.proofs.gain_error.Statement.{statement}
 use Rattle.gain.proofs.gain_error.Tie as tie
 
@@ -13,7 +13,6 @@ parts : (c : tie.After-log) → (mag (c .log .result .integer) < 32768) × (mag 
 parts c = search needs
 
 returns : tie.Need-returns
-unfolding gain-error
 returns c =
     let c1 = c .before in
     let c2 = c1 .before in
@@ -36,8 +35,8 @@ returns c =
       via w16 (k .result .integer) (p .0),
       via w16 (k .result .fraction) (p .1),
       k .ensures,
-      came w32 (c9 .gamma) ∙ c9 .gamma .ensures,
+      toZ-ofZ (c9 .fits .g),
     )
 
 pub gain-error-spec : {M : Type 1} → statement M
-gain-error-spec = tie.close (tie.spec (λ c κs. search needs) (λ c κs. search needs) (λ c κs. search needs) (λ c κs. search needs) (λ c κs. search needs) (λ c κs. search needs) (λ c κs. search needs) (λ c κs. search needs) returns)
+gain-error-spec = tie.close (tie.spec (λ c κs. search needs) (λ c κs. search needs) (λ c κs. search needs) (λ c κs. search needs) (λ c κs. search needs) (λ c κs. search needs) (λ c κs. search needs) returns)

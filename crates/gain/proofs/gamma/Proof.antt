@@ -4,32 +4,25 @@ use borrow.Author.Needs.{needs}
 use mir.Syntax.{w16, w32}
 use mir.Facts.{toZ-ofZ, sfits-widen}
 use Rattle.laws.specs.Back.{came, fits-came, keep}
-use Rattle.gain.specs.Gain.{gamma}
 use Rattle.gain.proofs.gamma.Statement.{statement}
 use Rattle.gain.proofs.gamma.Tie as tie
 
 cast-l-add : tie.Need-cast-l-add
-cast-l-add c = sfits-widen tt (keep w16 tt (fits-came w16 (c .before .before .gain-ga)))
+cast-l-add c = sfits-widen tt (keep w16 tt (fits-came w16 (c .before .gain-ga)))
 
 cast-l-add-2 : tie.Need-cast-l-add-2
 cast-l-add-2 c = sfits-widen tt (keep w16 tt (fits-came w16 (c .gain-gb)))
 
 returns : tie.Need-returns
-unfolding gamma
 returns c =
-    let c1 = c .before in
-    let c2 = c1 .before in
-    let c3 = c2 .before in
-    let c4 = c3 .before in
+    let b = c .before in
     rw (
       came w32 (c .l-add) ∙ c .l-add .ensures,
-      toZ-ofZ (cast-l-add (c1)),
-      toZ-ofZ (cast-l-add-2 (c1)),
-      came w16 (c1 .gain-gb) ∙ c1 .gain-gb .ensures,
-      c2 .row-gb .ensures,
-      came w16 (c3 .gain-ga) ∙ c3 .gain-ga .ensures,
-      c4 .row-ga .ensures,
+      toZ-ofZ (cast-l-add b),
+      toZ-ofZ (cast-l-add-2 b),
+      came w16 (b .gain-gb) ∙ b .gain-gb .ensures,
+      came w16 (b .before .gain-ga) ∙ b .before .gain-ga .ensures,
     )
 
 pub gamma-spec : {M : Type 1} → statement M
-gamma-spec = tie.close (tie.spec (λ c κs. search needs) (λ c κs. search needs) (λ c κs. search needs) (λ c κs. search needs) cast-l-add cast-l-add-2 (λ c κs. search needs) returns)
+gamma-spec = tie.close (tie.spec (λ c κs. search needs) (λ c κs. search needs) cast-l-add cast-l-add-2 (λ c κs. search needs) returns)

@@ -1,21 +1,23 @@
--- `lpc::top` meets its contract: four operators in a row. Assumes nothing.
+-- `lpc::top` meets its contract: operators in a row, after the doubled product. Assumes nothing.
 use mathlib.Core.Path.{_∙_}
-use mir.Syntax.{w32}
+use mir.Syntax.{w32, w64}
 use mir.Facts.{toZ-ofZ}
 use Rattle.laws.specs.Back.{came}
+use Rattle.basic_op.specs.Oper32b.{multiply-32-by-16}
 use Rattle.lpc.specs.Lpc.{top}
+use Rattle.lpc.specs.Small.{twice}
 use borrow.Author.Needs.{needs}
 use Rattle.lpc.proofs.top.Statement.{statement}
 use Rattle.lpc.proofs.top.Tie as tie
 
-multiply-32-by-16-requires : tie.Need-multiply-32-by-16-requires
-multiply-32-by-16-requires c κs = search needs
+twice-product-requires : tie.Need-twice-product-requires
+twice-product-requires c κs = search needs
+
+sat32-requires : tie.Need-sat32-requires
+sat32-requires c κs = search needs
 
 l-shl-requires : tie.Need-l-shl-requires
 l-shl-requires c κs = search needs
-
-l-shl-requires-2 : tie.Need-l-shl-requires-2
-l-shl-requires-2 c κs = search needs
 
 l-sub-requires : tie.Need-l-sub-requires
 l-sub-requires c κs = search needs
@@ -27,18 +29,19 @@ returns c =
     let s = m .before in
     came w32 (c .l-sub) ∙ c .l-sub .ensures
     ∙ rw (
-      came w32 (c .before .l-shl2),
-      c .before .l-shl2 .ensures,
-      came w32 (c .before .before .l-shl),
-      c .before .before .l-shl .ensures,
-      came w32 (m .multiply-32-by-16),
-      m .multiply-32-by-16 .ensures,
+      came w32 (c .before .l-shl),
+      c .before .l-shl .ensures,
+      came w32 (c .before .before .sat32),
+      c .before .before .sat32 .ensures,
+      came w64 (m .twice-product),
+      m .twice-product .ensures,
       toZ-ofZ (s .fits .previous),
       toZ-ofZ (s .fits .q),
       toZ-ofZ (s .fits .older),
+      twice (multiply-32-by-16 (s .args .previous) (s .args .q)),
     )
 
 pub top-spec : {M : Type 1} → statement M
 top-spec =
     tie.close
-    (tie.spec multiply-32-by-16-requires l-shl-requires l-shl-requires-2 l-sub-requires returns)
+    (tie.spec twice-product-requires sat32-requires l-shl-requires l-sub-requires returns)

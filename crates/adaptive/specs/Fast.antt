@@ -1,0 +1,47 @@
+-- What the private functions of src/fast.rt say of each other: equation (40) of G.729 clause 3.7.1 by its taps in the order of the words, and when its
+-- sums need no saturation. No public contract cites these.
+use Prim.Native.Nat.{ℕ, _+_, _-_, _*_, _^_, _≤_, _<_}
+use mathlib.Core.Path.{_≡_}
+use mathlib.Core.Bool.{cond}
+use mathlib.Core.List.{List}
+use lib.Dec.{ltb}
+use lib.IntN.{ℤ, pos, _+ℤ_, _*ℤ_}
+use lib.Signed.{mag}
+use Rattle.laws.specs.Lists.{at, tab}
+use Rattle.laws.specs.Loops.{steps, run}
+use Rattle.basic_op.specs.Ops.{l-mac, round}
+
+-- where tap j of a phase stands in the filter
+unfoldable pub tap : ℕ → ℕ → ℕ
+tap phase j = cond (ltb j 10) (phase + 3 * (9 - j)) (3 - phase + 3 * (j - 10))
+
+unfoldable pub taps : List ℤ → ℕ → List ℤ
+taps b30 phase = tab 20 (λ j. at b30 (tap phase j))
+
+-- `interpolate` by these taps
+unfoldable pub filtered : List ℤ → ℕ → List ℤ → ℤ
+filtered c x u = round (steps (λ i s. l-mac (l-mac s (at u (x - i)) (at c (9 - i))) (at u (x + 1 + i)) (at c (10 + i))) 10 (pos 0))
+
+-- the sum of the first n products, the oldest word at p
+unfoldable pub dot : List ℤ → List ℤ → ℕ → ℕ → ℤ
+dot c u p n = steps (λ j s. s +ℤ at u (p + j) *ℤ at c j) n (pos 0)
+
+-- at least the sum of the first n taps without their signs
+unfoldable pub weight : List ℤ → ℕ → ℕ
+weight c n = steps (λ j s. s + (mag (at c j) + 1)) n 0
+
+-- the n words from p on lie from -m to m - 1
+abbrev pub Small : List ℤ → ℕ → ℕ → ℕ → Type 0
+Small l p n m = (j : ℕ) → j < n → mag (at l (p + j)) < m
+
+-- every sum of the first products fits 32 bits
+abbrev pub Sums : List ℤ → List ℤ → ℕ → Type 0
+Sums c u p = (n : ℕ) → n ≤ 20 → mag (dot c u p n) < 2 ^ 31
+
+-- taps of a weight at which no sum of small words saturates, and places within the buffer
+abbrev pub Steady : List ℤ → ℕ → ℕ → Type 0
+Steady c from k = (weight c 20 ≤ 65534) × ((10 ≤ k) × ((k + 9 ≤ from) × (from + 40 ≤ 234)))
+
+-- what takes the first m words written from p on to the first n
+abbrev pub Goes : (ℕ → List ℤ → ℤ) → ℕ → ℕ → ℕ → List ℤ → List ℤ → Type 0
+Goes f p m n e x = (l : List ℤ) → e ≡ run f p m l → x ≡ run f p n l

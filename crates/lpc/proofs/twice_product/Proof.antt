@@ -1,0 +1,59 @@
+-- `lpc::twice_product` meets its contract: one product stands for the two of the split number. Assumes nothing.
+use mathlib.Core.Path.{_≡_, _∙_}
+use native.Mathlib.Omega.{arith}
+use borrow.Author.Needs.{needs}
+use lib.IntN.{pos, _*ℤ_}
+use mir.Syntax.{w16, w32, w64}
+use mir.Val.{toZ, ofZ}
+use mir.Facts.{toZ-ofZ, sfits-widen}
+use Rattle.laws.specs.Range.{fits-mul}
+use Rattle.laws.specs.Back.{came, fits-came, keep}
+use Rattle.basic_op.specs.Oper32b.{multiply-32-by-16}
+use Rattle.lpc.specs.Small.{four, twice-small}
+use Rattle.lpc.proofs.twice_product.Statement.{statement}
+use Rattle.lpc.proofs.twice_product.Tie as tie
+
+sar32-requires : tie.Need-sar32-requires
+sar32-requires c κs = search needs
+
+cast-sar64 : tie.Need-cast-sar64
+cast-sar64 c = sfits-widen tt (keep w32 tt (fits-came w32 (c .sar32)))
+
+cast-sar64-2 : tie.Need-cast-sar64-2
+cast-sar64-2 c = sfits-widen tt (keep w16 tt (c .before .fits .q))
+
+mul-sar64 : tie.Need-mul-sar64
+mul-sar64 c = fits-mul w32 w16 w64 _ _ (keep w64 tt (keep w32 tt (fits-came w32 (c .sar32)))) (keep w64 tt (keep w16 tt (c .before .fits .q))) tt
+
+sar64-requires : tie.Need-sar64-requires
+sar64-requires c κs = search needs
+
+value : (c : tie.After-sar64) → toZ w64 (ofZ w64 (c .sar64 .result)) *ℤ pos 4 ≡ multiply-32-by-16 (c .before .before .args .v) (c .before .before .args .q) *ℤ pos 2
+value c =
+    let b = c .before in
+    let s = b .before in
+    rw (
+      came w64 (c .sar64),
+      c .sar64 .ensures,
+      toZ-ofZ (mul-sar64 b),
+      toZ-ofZ (cast-sar64 b),
+      toZ-ofZ (cast-sar64-2 b),
+      came w32 (b .sar32),
+      b .sar32 .ensures,
+      toZ-ofZ (s .fits .v),
+      toZ-ofZ (s .fits .q),
+    )
+    (four (s .args .v) (s .args .q) (s .pre) (s .fits .q .sfits))
+
+mul-result : tie.Need-mul-result
+mul-result c =
+    let s = c .before .before in
+    rw (value c) (record { sfits = omega (arith, twice-small (s .args .v) (s .args .q) (s .pre) (s .fits .q .sfits)) })
+
+returns : tie.Need-returns
+returns c = toZ-ofZ (mul-result c) ∙ value c
+
+pub twice-product-spec : {M : Type 1} → statement M
+twice-product-spec =
+    tie.close
+    (tie.spec sar32-requires cast-sar64 cast-sar64-2 mul-sar64 sar64-requires mul-result returns)

@@ -1,0 +1,85 @@
+/* Holdamek: the six operations of a G.729 voice path as C functions (x86-64 Linux; C99 or later, C++).
+ * `rt staticlib holdamek` makes target/staticlib/libholdamek.a:  cc -Iinclude program.c target/staticlib/libholdamek.a
+ *
+ * Each function returns 0 or the number of the first refusal that applies, in the order of its list below. A refusal leaves all lent
+ * memory as it was. Nothing is allocated, no function keeps anything between two calls, and none waits or calls the system, so
+ * threads may call them at the same time, on one table block too, as long as nobody else touches the memory lent for writing. Less than
+ * 16 KiB of stack is enough (measured).
+ *
+ * A length counts elements, not bytes. A wrong length is refused before the memory is touched; so NULL with length 0 is refused where
+ * another length is due, and is right for the payload of HOLDAMEK_NO_TRANSMISSION and HOLDAMEK_ERASED.
+ *
+ * What no function can notice, and the caller sees to: a pointer with a right length points to that much memory of its type, NULL never;
+ * `kind`, `frames` and `lost` are never NULL; and what is lent for writing overlaps nothing else that is lent in the same call. */
+#ifndef HOLDAMEK_H
+#define HOLDAMEK_H
+
+#include <stddef.h>
+#include <stdint.h>
+
+#ifdef __cplusplus
+extern "C" {
+#endif
+
+enum holdamek_size {
+    HOLDAMEK_TABLE_WORDS = 1880,      /* 16-bit words of a table block; in a file 3,760 bytes, low byte first */
+    HOLDAMEK_STATE_WORDS = 234,       /* words of a state block */
+    HOLDAMEK_FRAME_SAMPLES = 80,      /* samples of a frame, 10 ms */
+    HOLDAMEK_PAYLOAD_BYTES = 10,      /* bytes of a voice frame, and room for the payload of a line */
+    HOLDAMEK_SID_BYTES = 2,           /* bytes of a SID frame */
+    HOLDAMEK_FIELDS = 15,             /* fields of a voice frame */
+    HOLDAMEK_LONGEST_LINE = 36,       /* characters of the longest line, without its line feed */
+    HOLDAMEK_MOST_FRAMES = 360000     /* frames of a call at most */
+};
+
+/* Kinds of frames. 1 to 3 are concealed like losses. */
+enum holdamek_kind {
+    HOLDAMEK_VOICE = 0,
+    HOLDAMEK_SID = 1,
+    HOLDAMEK_NO_TRANSMISSION = 2,
+    HOLDAMEK_ERASED = 3
+};
+
+/* The numbers that the functions return. */
+enum holdamek_refusal {
+    HOLDAMEK_OK = 0,
+    HOLDAMEK_TABLE_LENGTH = 1,        /* the table block isn't 1,880 words */
+    HOLDAMEK_TABLE_DELAY = 2,         /* the initial delay in the table block is outside 19..144 */
+    HOLDAMEK_STATE_LENGTH = 3,        /* the state block isn't 234 words */
+    HOLDAMEK_STATE_VALUES = 4,        /* in the state block the predictor isn't 0 or 1, or the delay is outside 19..144 */
+    HOLDAMEK_KIND_ABOVE_3 = 5,        /* there is no such kind of frame */
+    HOLDAMEK_PAYLOAD_LENGTH = 6,      /* the payload isn't 10, 2, 0, 0 bytes for kinds 0 to 3; for fields: not ten bytes */
+    HOLDAMEK_OUTPUT_LENGTH = 7,       /* the output isn't 80 words */
+    HOLDAMEK_RECEIVER_LENGTH = 8,     /* the receiver of fields isn't 15 numbers */
+    HOLDAMEK_LINE_FORM = 9,           /* the line isn't one of the four forms */
+    HOLDAMEK_COUNT_LIMIT = 10,        /* a count is 360,000 or more already */
+    HOLDAMEK_LINE_ROOM = 11           /* the room for a line's payload isn't ten bytes */
+};
+
+/* Whether a table block is accepted. Refusals 1, 2. */
+uint32_t holdamek_table_check(const int16_t *tables, size_t tables_length);
+
+/* Writes the state of a decoder before its first frame, all 234 words. Refusals 1, 2, 3. */
+uint32_t holdamek_fresh_state(const int16_t *tables, size_t tables_length, int16_t *state, size_t state_length);
+
+/* Decodes one frame: writes its 80 samples before the postfilter, and the state for the next frame. To save a job keep the 234 words;
+ * to resume it lend them to the next call. Refusals 1 to 7. */
+uint32_t holdamek_frame(const int16_t *tables, size_t tables_length, int16_t *state, size_t state_length, uint32_t kind,
+                        const uint8_t *payload, size_t payload_length, int16_t *samples, size_t samples_length);
+
+/* The fifteen fields of a voice frame, in the order of their bits: L0 L1 L2 L3 P1 P0 C1 S1 GA1 GB1 P2 C2 S2 GA2 GB2. Refusals 6, 8. */
+uint32_t holdamek_fields(const uint8_t *bytes, size_t bytes_length, uint16_t *fields, size_t fields_length);
+
+/* Reads one line of a call without its line feed, `(frame (voice H))` with 20 digits 0-9 a-f, `(frame (sid H))` with 4,
+ * `(frame (quiet))` or `(frame (lost))`: writes its kind, and its payload to the front of ten bytes, of which the others stay as
+ * they were. Refusals 11, 9. */
+uint32_t holdamek_line(const uint8_t *text, size_t text_length, uint32_t *kind, uint8_t *payload, size_t payload_length);
+
+/* Counts a frame: adds 1 to `frames`, and for kinds 1 to 3 to `lost`. Refusals 5, 10. */
+uint32_t holdamek_count(uint32_t kind, uint32_t *frames, uint32_t *lost);
+
+#ifdef __cplusplus
+}
+#endif
+
+#endif

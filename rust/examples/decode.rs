@@ -1,0 +1,77 @@
+//! The decoding program in Rust over the library: decode TABLES <call >samples. It prints `(pcm H)` for each frame and then
+//! `(total (frames N) (lost M))`, or `(refused (code C) (line L))` as its last form with exit status 1.
+
+use holdamek::{Counts, Decoder, Frame, Refusal, Samples, TableBlock, LONGEST_LINE};
+use std::io::{self, BufRead, Read, Write};
+use std::process::ExitCode;
+
+fn main() -> ExitCode {
+    let Some(path) = std::env::args().nth(1) else {
+        eprintln!("usage: decode TABLES <call");
+        return ExitCode::from(2);
+    };
+    // A file that can't be read is refused like an empty one.
+    let file = std::fs::read(path).unwrap_or_default();
+    let mut out = io::BufWriter::new(io::stdout().lock());
+    match decode(&file, &mut io::stdin().lock(), &mut out)
+        .and_then(|code| out.flush().map(|()| code))
+    {
+        Ok(code) => code,
+        Err(error) => {
+            eprintln!("decode: {error}");
+            ExitCode::from(2)
+        }
+    }
+}
+
+/// The whole call; 0 if it ends with a total, 1 if with a refusal.
+fn decode(file: &[u8], call: &mut impl BufRead, out: &mut impl Write) -> io::Result<ExitCode> {
+    let tables = match TableBlock::from_bytes(file) {
+        Ok(tables) => tables,
+        Err(refusal) => return refused(refusal, 0, out),
+    };
+    let mut decoder = match Decoder::new(&tables) {
+        Ok(decoder) => decoder,
+        Err(refusal) => return refused(refusal, 0, out),
+    };
+    let mut counts = Counts::default();
+    let mut line = Vec::with_capacity(LONGEST_LINE + 1);
+    loop {
+        line.clear();
+        call.by_ref()
+            .take(LONGEST_LINE as u64 + 1)
+            .read_until(b'\n', &mut line)?;
+        if line.is_empty() {
+            writeln!(
+                out,
+                "(total (frames {}) (lost {}))",
+                counts.frames, counts.lost
+            )?;
+            return Ok(ExitCode::SUCCESS);
+        }
+        match next(&mut decoder, &mut counts, &line) {
+            Ok(samples) => print(&samples, out)?,
+            Err(refusal) => return refused(refusal, counts.frames + 1, out),
+        }
+    }
+}
+
+/// The samples of a line with its line feed. An overlong or unfinished line has none.
+fn next(decoder: &mut Decoder, counts: &mut Counts, line: &[u8]) -> Result<Samples, Refusal> {
+    let frame = Frame::parse(line.strip_suffix(b"\n").ok_or(Refusal::LineForm)?)?;
+    counts.count(&frame)?;
+    decoder.decode(&frame)
+}
+
+fn print(samples: &Samples, out: &mut impl Write) -> io::Result<()> {
+    out.write_all(b"(pcm ")?;
+    for sample in samples {
+        write!(out, "{sample:04x}")?;
+    }
+    out.write_all(b")\n")
+}
+
+fn refused(refusal: Refusal, line: u32, out: &mut impl Write) -> io::Result<ExitCode> {
+    writeln!(out, "(refused (code {}) (line {line}))", refusal.code())?;
+    Ok(ExitCode::from(1))
+}

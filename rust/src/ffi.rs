@@ -1,0 +1,81 @@
+//! The C functions of include/holdamek.h, each behind a safe function over slices. The only unsafe code of this crate.
+//!
+//! All are safe for the same reasons: a slice's pointer and length describe memory that is its own, references are never null,
+//! what is lent by `&mut` overlaps nothing else, and the functions keep no pointer.
+
+mod c {
+    extern "C" {
+        pub fn holdamek_table_check(t: *const i16, t_len: usize) -> u32;
+        pub fn holdamek_fresh_state(t: *const i16, t_len: usize, b: *mut i16, b_len: usize) -> u32;
+        pub fn holdamek_frame(
+            t: *const i16,
+            t_len: usize,
+            b: *mut i16,
+            b_len: usize,
+            kind: u32,
+            payload: *const u8,
+            payload_len: usize,
+            out: *mut i16,
+            out_len: usize,
+        ) -> u32;
+        pub fn holdamek_fields(bytes: *const u8, len: usize, to: *mut u16, to_len: usize) -> u32;
+        pub fn holdamek_line(
+            text: *const u8,
+            text_len: usize,
+            kind: *mut u32,
+            payload: *mut u8,
+            payload_len: usize,
+        ) -> u32;
+        pub fn holdamek_count(kind: u32, frames: *mut u32, lost: *mut u32) -> u32;
+    }
+}
+
+pub fn table_check(t: &[i16]) -> u32 {
+    // SAFETY: see the head of this file.
+    unsafe { c::holdamek_table_check(t.as_ptr(), t.len()) }
+}
+
+pub fn fresh_state(t: &[i16], b: &mut [i16]) -> u32 {
+    // SAFETY: see the head of this file.
+    unsafe { c::holdamek_fresh_state(t.as_ptr(), t.len(), b.as_mut_ptr(), b.len()) }
+}
+
+pub fn frame(t: &[i16], b: &mut [i16], kind: u32, payload: &[u8], out: &mut [i16]) -> u32 {
+    // SAFETY: see the head of this file.
+    unsafe {
+        c::holdamek_frame(
+            t.as_ptr(),
+            t.len(),
+            b.as_mut_ptr(),
+            b.len(),
+            kind,
+            payload.as_ptr(),
+            payload.len(),
+            out.as_mut_ptr(),
+            out.len(),
+        )
+    }
+}
+
+pub fn fields(bytes: &[u8], to: &mut [u16]) -> u32 {
+    // SAFETY: see the head of this file.
+    unsafe { c::holdamek_fields(bytes.as_ptr(), bytes.len(), to.as_mut_ptr(), to.len()) }
+}
+
+pub fn line(text: &[u8], kind: &mut u32, payload: &mut [u8]) -> u32 {
+    // SAFETY: see the head of this file.
+    unsafe {
+        c::holdamek_line(
+            text.as_ptr(),
+            text.len(),
+            kind,
+            payload.as_mut_ptr(),
+            payload.len(),
+        )
+    }
+}
+
+pub fn count(kind: u32, frames: &mut u32, lost: &mut u32) -> u32 {
+    // SAFETY: see the head of this file.
+    unsafe { c::holdamek_count(kind, frames, lost) }
+}

@@ -1,0 +1,254 @@
+//! Holdamek for Rust: a G.729 voice path whose every function is proved, behind safe types.
+//!
+//! A [`TableBlock`] holds your licensed tables, checked. A [`Decoder`] takes one [`Frame`] after another and gives the 80
+//! samples of each before the postfilter. Its [`StateBlock`] can be saved between any two frames and resumed later, here or on
+//! another machine. [`Frame::parse`] reads a line of a call, and [`Counts`] counts its frames.
+//!
+//! ```
+//! use holdamek::{Decoder, Frame, TableBlock};
+//! # fn main() -> Result<(), Box<dyn std::error::Error>> {
+//! let tables = TableBlock::from_bytes(&std::fs::read("../examples/tables.g729")?)?;
+//! let mut decoder = Decoder::new(&tables)?;
+//! let samples = decoder.decode(&Frame::parse(b"(frame (lost))")?)?;
+//! assert_eq!(samples, [0; 80]);
+//! # Ok(())
+//! # }
+//! ```
+//!
+//! Nothing here panics, and nothing is allocated. What can be refused gives a [`Refusal`], and leaves everything as it was.
+
+#![deny(unsafe_code)]
+
+#[allow(unsafe_code)]
+mod ffi;
+mod refusal;
+
+pub use refusal::Refusal;
+
+/// Words of a table block.
+pub const TABLE_WORDS: usize = 1880;
+/// Words of a state block.
+pub const STATE_WORDS: usize = 234;
+/// Samples of a frame, 10 ms.
+pub const FRAME_SAMPLES: usize = 80;
+/// Characters of the longest line of a call, without its line feed.
+pub const LONGEST_LINE: usize = 36;
+/// Frames of a call at most.
+pub const MOST_FRAMES: u32 = 360_000;
+
+/// The samples of a frame.
+pub type Samples = [i16; FRAME_SAMPLES];
+
+/// A table block that was accepted.
+#[derive(Debug, Clone, PartialEq, Eq)]
+pub struct TableBlock([i16; TABLE_WORDS]);
+
+impl TableBlock {
+    /// The block of these words.
+    ///
+    /// # Errors
+    /// [`Refusal::TableLength`], [`Refusal::TableDelay`].
+    pub fn from_words(words: &[i16]) -> Result<Self, Refusal> {
+        Refusal::check(ffi::table_check(words))?;
+        let block = words.try_into().map_err(|_| Refusal::TableLength)?;
+        Ok(TableBlock(block))
+    }
+
+    /// The block of a file's 3,760 bytes, the low byte of each word first.
+    ///
+    /// # Errors
+    /// As [`TableBlock::from_words`].
+    pub fn from_bytes(bytes: &[u8]) -> Result<Self, Refusal> {
+        let words: [i16; TABLE_WORDS] = words(bytes).ok_or(Refusal::TableLength)?;
+        TableBlock::from_words(&words)
+    }
+
+    /// Its words.
+    pub fn words(&self) -> &[i16; TABLE_WORDS] {
+        &self.0
+    }
+}
+
+/// The state of a decoder between two frames. It may hold any words: whether they are accepted shows at the next frame.
+#[derive(Debug, Clone, PartialEq, Eq)]
+pub struct StateBlock([i16; STATE_WORDS]);
+
+impl StateBlock {
+    /// The state before the first frame.
+    ///
+    /// # Errors
+    /// None where the tables were accepted, which a [`TableBlock`] always is.
+    pub fn fresh(tables: &TableBlock) -> Result<Self, Refusal> {
+        let mut block = [0; STATE_WORDS];
+        Refusal::check(ffi::fresh_state(&tables.0, &mut block))?;
+        Ok(StateBlock(block))
+    }
+
+    /// The block of these words.
+    ///
+    /// # Errors
+    /// [`Refusal::StateLength`].
+    pub fn from_words(words: &[i16]) -> Result<Self, Refusal> {
+        let block = words.try_into().map_err(|_| Refusal::StateLength)?;
+        Ok(StateBlock(block))
+    }
+
+    /// The block of 468 bytes, the low byte of each word first.
+    ///
+    /// # Errors
+    /// [`Refusal::StateLength`].
+    pub fn from_bytes(bytes: &[u8]) -> Result<Self, Refusal> {
+        words(bytes).map(StateBlock).ok_or(Refusal::StateLength)
+    }
+
+    /// Its words.
+    pub fn words(&self) -> &[i16; STATE_WORDS] {
+        &self.0
+    }
+
+    /// Its words as bytes, to be saved: the low byte of each first.
+    pub fn to_bytes(&self) -> [u8; 2 * STATE_WORDS] {
+        let mut bytes = [0; 2 * STATE_WORDS];
+        for (pair, word) in bytes.chunks_exact_mut(2).zip(self.0) {
+            pair.copy_from_slice(&word.to_le_bytes());
+        }
+        bytes
+    }
+}
+
+/// N words, low byte first; `None` for another number of bytes.
+fn words<const N: usize>(bytes: &[u8]) -> Option<[i16; N]> {
+    if bytes.len() != 2 * N {
+        return None;
+    }
+    let mut words = [0; N];
+    for (word, pair) in words.iter_mut().zip(bytes.chunks_exact(2)) {
+        *word = i16::from_le_bytes(pair.try_into().ok()?);
+    }
+    Some(words)
+}
+
+/// A frame as it was received. The last three are concealed like losses.
+#[derive(Debug, Clone, Copy, PartialEq, Eq)]
+pub enum Frame {
+    /// Kind 0, a voice frame.
+    Voice([u8; 10]),
+    /// Kind 1, a silence descriptor.
+    Sid([u8; 2]),
+    /// Kind 2, no transmission.
+    NoTransmission,
+    /// Kind 3, a frame that is lost.
+    Erased,
+}
+
+impl Frame {
+    /// The frame of a line of a call, without its line feed.
+    ///
+    /// # Errors
+    /// [`Refusal::LineForm`].
+    pub fn parse(line: &[u8]) -> Result<Self, Refusal> {
+        let (mut kind, mut payload) = (0, [0; 10]);
+        Refusal::check(ffi::line(line, &mut kind, &mut payload))?;
+        match kind {
+            0 => Ok(Frame::Voice(payload)),
+            1 => Ok(Frame::Sid([payload[0], payload[1]])),
+            2 => Ok(Frame::NoTransmission),
+            3 => Ok(Frame::Erased),
+            _ => Err(Refusal::Kind),
+        }
+    }
+
+    /// Its kind, 0 to 3.
+    pub fn kind(&self) -> u32 {
+        match self {
+            Frame::Voice(_) => 0,
+            Frame::Sid(_) => 1,
+            Frame::NoTransmission => 2,
+            Frame::Erased => 3,
+        }
+    }
+
+    /// Its payload: ten, two or no bytes.
+    pub fn payload(&self) -> &[u8] {
+        match self {
+            Frame::Voice(bytes) => bytes,
+            Frame::Sid(bytes) => bytes,
+            Frame::NoTransmission | Frame::Erased => &[],
+        }
+    }
+}
+
+/// The fifteen fields of a voice frame's ten bytes: L0 L1 L2 L3 P1 P0 C1 S1 GA1 GB1 P2 C2 S2 GA2 GB2.
+///
+/// # Errors
+/// [`Refusal::PayloadLength`].
+pub fn fields(bytes: &[u8]) -> Result<[u16; 15], Refusal> {
+    let mut fields = [0; 15];
+    Refusal::check(ffi::fields(bytes, &mut fields))?;
+    Ok(fields)
+}
+
+/// The counts of a call.
+#[derive(Debug, Clone, Copy, Default, PartialEq, Eq)]
+pub struct Counts {
+    /// Its frames.
+    pub frames: u32,
+    /// Those of them of kinds 1, 2 and 3.
+    pub lost: u32,
+}
+
+impl Counts {
+    /// Counts a frame.
+    ///
+    /// # Errors
+    /// [`Refusal::CountLimit`].
+    pub fn count(&mut self, frame: &Frame) -> Result<(), Refusal> {
+        Refusal::check(ffi::count(frame.kind(), &mut self.frames, &mut self.lost))
+    }
+}
+
+/// A decoder: tables, and the state between two frames.
+#[derive(Debug, Clone)]
+pub struct Decoder<'t> {
+    tables: &'t TableBlock,
+    state: StateBlock,
+}
+
+impl<'t> Decoder<'t> {
+    /// A decoder before its first frame.
+    ///
+    /// # Errors
+    /// As [`StateBlock::fresh`].
+    pub fn new(tables: &'t TableBlock) -> Result<Self, Refusal> {
+        Ok(Decoder {
+            tables,
+            state: StateBlock::fresh(tables)?,
+        })
+    }
+
+    /// A decoder that goes on from a saved state.
+    pub fn resume(tables: &'t TableBlock, state: StateBlock) -> Self {
+        Decoder { tables, state }
+    }
+
+    /// The 80 samples of the next frame.
+    ///
+    /// # Errors
+    /// [`Refusal::StateValues`], where the decoder was resumed from a state that isn't accepted.
+    pub fn decode(&mut self, frame: &Frame) -> Result<Samples, Refusal> {
+        let mut samples = [0; FRAME_SAMPLES];
+        Refusal::check(ffi::frame(
+            &self.tables.0,
+            &mut self.state.0,
+            frame.kind(),
+            frame.payload(),
+            &mut samples,
+        ))?;
+        Ok(samples)
+    }
+
+    /// The state, to be saved.
+    pub fn state(&self) -> &StateBlock {
+        &self.state
+    }
+}

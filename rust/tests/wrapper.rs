@@ -1,0 +1,183 @@
+//! The wrapper over the example files: samples, saving and resuming, every refusal that its types leave.
+
+use holdamek::{fields, Counts, Decoder, Frame, Refusal, StateBlock, TableBlock};
+use holdamek::{MOST_FRAMES, STATE_WORDS, TABLE_WORDS};
+
+const TABLES: &[u8] = include_bytes!("../../examples/tables.g729");
+const CALL: &[u8] = include_bytes!("../../examples/call.txt");
+const PCM: &str = include_str!("../../examples/call.pcm");
+
+fn tables() -> TableBlock {
+    TableBlock::from_bytes(TABLES).unwrap()
+}
+
+fn call() -> Vec<Frame> {
+    let lines = CALL.split_inclusive(|b| *b == b'\n');
+    lines
+        .map(|l| Frame::parse(&l[..l.len() - 1]).unwrap())
+        .collect()
+}
+
+fn text(samples: &[i16]) -> String {
+    let digits: String = samples.iter().map(|s| format!("{s:04x}")).collect();
+    format!("(pcm {digits})")
+}
+
+#[test]
+fn samples_of_the_example() {
+    let tables = tables();
+    let mut decoder = Decoder::new(&tables).unwrap();
+    let mut counts = Counts::default();
+    let mut due = PCM.lines();
+    for frame in call() {
+        counts.count(&frame).unwrap();
+        let samples = decoder.decode(&frame).unwrap();
+        assert_eq!(Some(text(&samples).as_str()), due.next());
+    }
+    let total = format!("(total (frames {}) (lost {}))", counts.frames, counts.lost);
+    assert_eq!(Some(total.as_str()), due.next());
+}
+
+#[test]
+fn a_saved_state_resumes_at_every_place() {
+    let tables = tables();
+    let call = call();
+    let mut whole = Decoder::new(&tables).unwrap();
+    for at in 0..call.len() {
+        let saved = whole.state().to_bytes();
+        let mut resumed = Decoder::resume(&tables, StateBlock::from_bytes(&saved).unwrap());
+        let mut twin = whole.clone();
+        for frame in &call[at..] {
+            assert_eq!(resumed.decode(frame), twin.decode(frame));
+            assert_eq!(resumed.state(), twin.state());
+        }
+        whole.decode(&call[at]).unwrap();
+    }
+}
+
+#[test]
+fn tables_are_checked() {
+    let mut words = *tables().words();
+    assert_eq!(TableBlock::from_words(&words), Ok(tables()));
+    assert_eq!(
+        TableBlock::from_words(&words[1..]),
+        Err(Refusal::TableLength)
+    );
+    assert_eq!(TableBlock::from_words(&[]), Err(Refusal::TableLength));
+    assert_eq!(
+        TableBlock::from_words(&[0; TABLE_WORDS + 1]),
+        Err(Refusal::TableLength)
+    );
+    assert_eq!(
+        TableBlock::from_bytes(&TABLES[1..]),
+        Err(Refusal::TableLength)
+    );
+    assert_eq!(TableBlock::from_bytes(&[]), Err(Refusal::TableLength));
+    for (delay, accepted) in [
+        (18, false),
+        (19, true),
+        (144, true),
+        (145, false),
+        (-1, false),
+    ] {
+        words[1867] = delay;
+        let due = if accepted {
+            None
+        } else {
+            Some(Refusal::TableDelay)
+        };
+        assert_eq!(TableBlock::from_words(&words).err(), due);
+    }
+}
+
+#[test]
+fn states_are_checked_at_the_frame() {
+    let tables = tables();
+    let fresh = StateBlock::fresh(&tables).unwrap();
+    assert_eq!(StateBlock::from_words(fresh.words()), Ok(fresh.clone()));
+    assert_eq!(
+        StateBlock::from_words(&[0; STATE_WORDS - 1]),
+        Err(Refusal::StateLength)
+    );
+    assert_eq!(
+        StateBlock::from_bytes(&[0; 2 * STATE_WORDS + 1]),
+        Err(Refusal::StateLength)
+    );
+    for (place, word) in [(40, 2), (40, -1), (61, 18), (61, 145)] {
+        let mut words = *fresh.words();
+        words[place] = word;
+        let state = StateBlock::from_words(&words).unwrap();
+        let mut decoder = Decoder::resume(&tables, state.clone());
+        assert_eq!(decoder.decode(&Frame::Erased), Err(Refusal::StateValues));
+        assert_eq!(decoder.state(), &state);
+    }
+}
+
+#[test]
+fn lines_are_read() {
+    let voice = Frame::Voice([0x3e, 0xa0, 0x1d, 0x77, 0x10, 0xdf, 0x31, 0x07, 0x79, 0x94]);
+    assert_eq!(
+        Frame::parse(b"(frame (voice 3ea01d7710df31077994))"),
+        Ok(voice)
+    );
+    assert_eq!(
+        Frame::parse(b"(frame (sid c0aa))"),
+        Ok(Frame::Sid([0xc0, 0xaa]))
+    );
+    assert_eq!(Frame::parse(b"(frame (quiet))"), Ok(Frame::NoTransmission));
+    assert_eq!(Frame::parse(b"(frame (lost))"), Ok(Frame::Erased));
+    for line in [
+        "",
+        "(frame (lost))\n",
+        "(frame (Lost))",
+        "(frame (sid C0AA))",
+        "(frame  (lost))",
+    ] {
+        assert_eq!(Frame::parse(line.as_bytes()), Err(Refusal::LineForm));
+    }
+    assert_eq!(
+        fields(voice.payload()),
+        Ok([0, 62, 20, 0, 117, 1, 5904, 13, 7, 9, 17, 239, 3, 1, 4])
+    );
+    assert_eq!(fields(&[0; 9]), Err(Refusal::PayloadLength));
+}
+
+#[test]
+fn a_call_has_a_limit() {
+    let mut counts = Counts {
+        frames: MOST_FRAMES - 1,
+        lost: 7,
+    };
+    assert_eq!(counts.count(&Frame::Sid([0, 0])), Ok(()));
+    let full = Counts {
+        frames: MOST_FRAMES,
+        lost: 8,
+    };
+    assert_eq!(counts, full);
+    assert_eq!(counts.count(&Frame::Erased), Err(Refusal::CountLimit));
+    assert_eq!(counts, full);
+}
+
+#[test]
+fn refusals_have_their_numbers() {
+    assert_eq!(Refusal::CountLimit.code(), 10);
+    assert_eq!(
+        Refusal::LineForm.to_string(),
+        "refusal 9: the line isn't one of the four forms"
+    );
+}
+
+#[test]
+fn threads_share_tables() {
+    let (tables, call) = (tables(), call());
+    std::thread::scope(|scope| {
+        for _ in 0..4 {
+            scope.spawn(|| {
+                let mut decoder = Decoder::new(&tables).unwrap();
+                for (frame, due) in call.iter().zip(PCM.lines()) {
+                    assert_eq!(text(&decoder.decode(frame).unwrap()), due);
+                }
+            });
+        }
+    });
+}

@@ -1,0 +1,222 @@
+/* The border of the library, from C: every refusal of every function under its exact condition and in its order, nothing written by a
+ * refusal, NULL with length 0, and the bytes beside the lent memory left alone. Exit status 0 if all checks hold. */
+#include <holdamek.h>
+#include <stdio.h>
+#include <string.h>
+
+static int checks, failed;
+
+static void check(int holds, const char *what)
+{
+    checks++;
+    if (!holds) {
+        failed++;
+        printf("failed: %s\n", what);
+    }
+}
+#define CHECK(holds) check((holds) != 0, #holds)
+
+enum { DELAY_OF_TABLES = 1867, PREDICTOR = 40, DELAY = 61, MARK = 0x5aa5 };
+
+/* Lent memory with a mark behind it. */
+static int16_t tables[HOLDAMEK_TABLE_WORDS + 1], state[HOLDAMEK_STATE_WORDS + 1], samples[HOLDAMEK_FRAME_SAMPLES + 1];
+static int16_t state_before[HOLDAMEK_STATE_WORDS + 1], samples_before[HOLDAMEK_FRAME_SAMPLES + 1];
+static const uint8_t voice[HOLDAMEK_PAYLOAD_BYTES + 1] = {0x3e, 0xa0, 0x1d, 0x77, 0x10, 0xdf, 0x31, 0x07, 0x79, 0x94, 0};
+
+static uint32_t frame(size_t t, size_t s, uint32_t kind, size_t p, size_t o)
+{
+    return holdamek_frame(tables, t, state, s, kind, voice, p, samples, o);
+}
+
+static void keep(void)
+{
+    memcpy(state_before, state, sizeof state);
+    memcpy(samples_before, samples, sizeof samples);
+}
+
+static int kept(void)
+{
+    return memcmp(state_before, state, sizeof state) == 0 && memcmp(samples_before, samples, sizeof samples) == 0;
+}
+
+static void of_tables(void)
+{
+    size_t n;
+    int delay;
+
+    tables[DELAY_OF_TABLES] = 60;
+    for (n = 0; n < HOLDAMEK_TABLE_WORDS; n++)
+        check(holdamek_table_check(tables, n) == HOLDAMEK_TABLE_LENGTH, "a shorter table block is refused");
+    CHECK(holdamek_table_check(tables, HOLDAMEK_TABLE_WORDS) == HOLDAMEK_OK);
+    CHECK(holdamek_table_check(tables, HOLDAMEK_TABLE_WORDS + 1) == HOLDAMEK_TABLE_LENGTH);
+    CHECK(holdamek_table_check(tables, (size_t)-1) == HOLDAMEK_TABLE_LENGTH);
+    CHECK(holdamek_table_check(NULL, 0) == HOLDAMEK_TABLE_LENGTH);
+    for (delay = -32768; delay < 32768; delay++) {
+        uint32_t due = delay < 19 || delay > 144 ? HOLDAMEK_TABLE_DELAY : HOLDAMEK_OK;
+        tables[DELAY_OF_TABLES] = (int16_t)delay;
+        check(holdamek_table_check(tables, HOLDAMEK_TABLE_WORDS) == due, "the initial delay is from 19 to 144");
+    }
+    tables[DELAY_OF_TABLES] = 60;
+}
+
+static void of_fresh_state(void)
+{
+    size_t n;
+
+    keep();
+    for (n = 0; n < HOLDAMEK_STATE_WORDS; n++)
+        check(holdamek_fresh_state(tables, HOLDAMEK_TABLE_WORDS, state, n) == HOLDAMEK_STATE_LENGTH, "a shorter state is refused");
+    CHECK(holdamek_fresh_state(tables, HOLDAMEK_TABLE_WORDS, state, HOLDAMEK_STATE_WORDS + 1) == HOLDAMEK_STATE_LENGTH);
+    CHECK(holdamek_fresh_state(tables, HOLDAMEK_TABLE_WORDS, NULL, 0) == HOLDAMEK_STATE_LENGTH);
+    CHECK(holdamek_fresh_state(NULL, 0, NULL, 0) == HOLDAMEK_TABLE_LENGTH);
+    tables[DELAY_OF_TABLES] = 18;
+    CHECK(holdamek_fresh_state(tables, HOLDAMEK_TABLE_WORDS, NULL, 0) == HOLDAMEK_TABLE_DELAY);
+    tables[DELAY_OF_TABLES] = 60;
+    CHECK(kept());
+    CHECK(holdamek_fresh_state(tables, HOLDAMEK_TABLE_WORDS, state, HOLDAMEK_STATE_WORDS) == HOLDAMEK_OK);
+    CHECK(state[0] == 2339 && state[9] == 23396 && state[PREDICTOR] == 0 && state[DELAY] == 60 && state[62] == 21845);
+    CHECK(state[63] == -14336 && state[69] == 3277 && state[233] == 0 && state[HOLDAMEK_STATE_WORDS] == MARK);
+}
+
+static void of_frame(void)
+{
+    static const size_t length[] = {10, 2, 0, 0};
+    const size_t t = HOLDAMEK_TABLE_WORDS, s = HOLDAMEK_STATE_WORDS, o = HOLDAMEK_FRAME_SAMPLES;
+    uint32_t kind;
+    size_t n;
+
+    keep();
+    CHECK(frame(t - 1, s - 1, 4, 9, o - 1) == HOLDAMEK_TABLE_LENGTH);
+    tables[DELAY_OF_TABLES] = 145;
+    CHECK(frame(t, s - 1, 4, 9, o - 1) == HOLDAMEK_TABLE_DELAY);
+    tables[DELAY_OF_TABLES] = 60;
+    CHECK(frame(t, s - 1, 4, 9, o - 1) == HOLDAMEK_STATE_LENGTH);
+    CHECK(frame(t, s + 1, 4, 9, o - 1) == HOLDAMEK_STATE_LENGTH);
+    CHECK(frame(t, s, 4, 9, o - 1) == HOLDAMEK_KIND_ABOVE_3);
+    CHECK(frame(t, s, 0xffffffffu, 10, o) == HOLDAMEK_KIND_ABOVE_3);
+    for (kind = 0; kind < 4; kind++)
+        for (n = 0; n < 12; n++)
+            if (n != length[kind])
+                check(frame(t, s, kind, n, o - 1) == HOLDAMEK_PAYLOAD_LENGTH, "another payload length is refused");
+    for (kind = 0; kind < 4; kind++)
+        for (n = 0; n < 300; n++)
+            if (n != o)
+                check(frame(t, s, kind, length[kind], n) == HOLDAMEK_OUTPUT_LENGTH, "another output length is refused");
+    CHECK(holdamek_frame(tables, t, state, s, 0, NULL, 0, samples, o) == HOLDAMEK_PAYLOAD_LENGTH);
+    CHECK(holdamek_frame(tables, t, state, s, 3, NULL, 0, NULL, 0) == HOLDAMEK_OUTPUT_LENGTH);
+    CHECK(kept());
+    state[PREDICTOR] = 2;
+    keep();
+    CHECK(frame(t, s, 4, 9, o - 1) == HOLDAMEK_STATE_VALUES && kept());
+    state[PREDICTOR] = -1;
+    CHECK(frame(t, s, 0, 10, o) == HOLDAMEK_STATE_VALUES);
+    state[PREDICTOR] = 1;
+    state[DELAY] = 18;
+    CHECK(frame(t, s, 0, 10, o) == HOLDAMEK_STATE_VALUES);
+    state[DELAY] = 145;
+    CHECK(frame(t, s, 0, 10, o) == HOLDAMEK_STATE_VALUES);
+    for (kind = 0; kind < 4; kind++) {
+        state[DELAY] = 144;
+        keep();
+        CHECK(frame(t, s, kind, length[kind], o) == HOLDAMEK_OK);
+        CHECK(memcmp(state, state_before, sizeof state) != 0);
+    }
+    CHECK(holdamek_frame(tables, t, state, s, 2, NULL, 0, samples, o) == HOLDAMEK_OK);
+    CHECK(state[HOLDAMEK_STATE_WORDS] == MARK && samples[HOLDAMEK_FRAME_SAMPLES] == MARK);
+}
+
+static void of_fields(void)
+{
+    static const uint16_t due[HOLDAMEK_FIELDS] = {0, 62, 20, 0, 117, 1, 5904, 13, 7, 9, 17, 239, 3, 1, 4};
+    uint16_t fields[HOLDAMEK_FIELDS + 1], before[HOLDAMEK_FIELDS + 1];
+    size_t n;
+
+    memset(fields, 0x77, sizeof fields);
+    memcpy(before, fields, sizeof fields);
+    for (n = 0; n < 12; n++)
+        if (n != 10)
+            check(holdamek_fields(voice, n, fields, 14) == HOLDAMEK_PAYLOAD_LENGTH, "fields of another length are refused");
+    for (n = 0; n < 17; n++)
+        if (n != HOLDAMEK_FIELDS)
+            check(holdamek_fields(voice, 10, fields, n) == HOLDAMEK_RECEIVER_LENGTH, "another receiver is refused");
+    CHECK(holdamek_fields(NULL, 0, NULL, 0) == HOLDAMEK_PAYLOAD_LENGTH);
+    CHECK(holdamek_fields(voice, 10, NULL, 0) == HOLDAMEK_RECEIVER_LENGTH);
+    CHECK(memcmp(fields, before, sizeof fields) == 0);
+    CHECK(holdamek_fields(voice, 10, fields, HOLDAMEK_FIELDS) == HOLDAMEK_OK);
+    CHECK(memcmp(fields, due, sizeof due) == 0 && fields[HOLDAMEK_FIELDS] == 0x7777);
+}
+
+static uint32_t line(const char *text, uint32_t *kind, uint8_t *payload, size_t room)
+{
+    return holdamek_line((const uint8_t *)text, strlen(text), kind, payload, room);
+}
+
+static void of_line(void)
+{
+    static const char *const wrong[] = {
+        "", " ", "(frame (lost)) ", " (frame (lost))", "(frame (lost)", "(frame  (lost))", "(frame (Lost))", "(frame (lost))\r",
+        "(frame (voice 3ea01d7710df3107799))", "(frame (voice 3ea01d7710df310779940))", "(frame (voice 3EA01D7710DF31077994))",
+        "(frame (voice 3ea01d7710df3107799g))", "(frame (sid c0a))", "(frame (sid c0aaa))", "(frame (sid c0 a))", "(frame (silent))"};
+    uint32_t kind = 77;
+    uint8_t p[HOLDAMEK_PAYLOAD_BYTES + 1], before[HOLDAMEK_PAYLOAD_BYTES + 1];
+    size_t n;
+
+    memset(p, 0xee, sizeof p);
+    memcpy(before, p, sizeof p);
+    for (n = 0; n < sizeof wrong / sizeof *wrong; n++)
+        check(line(wrong[n], &kind, p, 10) == HOLDAMEK_LINE_FORM, "another form is refused");
+    for (n = 0; n < 12; n++)
+        if (n != 10)
+            check(line("(frame (lost))", &kind, p, n) == HOLDAMEK_LINE_ROOM && line("", &kind, p, n) == HOLDAMEK_LINE_ROOM,
+                  "room for other than ten bytes is refused");
+    CHECK(holdamek_line(NULL, 0, &kind, p, 10) == HOLDAMEK_LINE_FORM);
+    for (n = 37; n != 0; n *= 2)
+        check(holdamek_line(p, n, &kind, p + 1, 10) == HOLDAMEK_LINE_FORM, "an overlong line is refused unread");
+    CHECK(holdamek_line(p, (size_t)-1, &kind, p + 1, 10) == HOLDAMEK_LINE_FORM);
+    CHECK(holdamek_line(NULL, 0, &kind, NULL, 0) == HOLDAMEK_LINE_ROOM);
+    CHECK(kind == 77 && memcmp(p, before, sizeof p) == 0);
+    CHECK(line("(frame (lost))", &kind, p, 10) == HOLDAMEK_OK && kind == HOLDAMEK_ERASED);
+    CHECK(line("(frame (quiet))", &kind, p, 10) == HOLDAMEK_OK && kind == HOLDAMEK_NO_TRANSMISSION);
+    CHECK(memcmp(p, before, sizeof p) == 0);
+    CHECK(line("(frame (sid c0aa))", &kind, p, 10) == HOLDAMEK_OK && kind == HOLDAMEK_SID);
+    CHECK(p[0] == 0xc0 && p[1] == 0xaa && memcmp(p + 2, before + 2, sizeof p - 2) == 0);
+    CHECK(line("(frame (voice 3ea01d7710df31077994))", &kind, p, 10) == HOLDAMEK_OK && kind == HOLDAMEK_VOICE);
+    CHECK(memcmp(p, voice, 10) == 0 && p[10] == 0xee);
+}
+
+static void of_count(void)
+{
+    uint32_t kind, frames = 5, lost = 2;
+
+    CHECK(holdamek_count(4, &frames, &lost) == HOLDAMEK_KIND_ABOVE_3 && frames == 5 && lost == 2);
+    for (kind = 0; kind < 4; kind++)
+        CHECK(holdamek_count(kind, &frames, &lost) == HOLDAMEK_OK);
+    CHECK(frames == 9 && lost == 5);
+    frames = HOLDAMEK_MOST_FRAMES - 1;
+    lost = HOLDAMEK_MOST_FRAMES - 1;
+    CHECK(holdamek_count(3, &frames, &lost) == HOLDAMEK_OK && frames == 360000 && lost == 360000);
+    CHECK(holdamek_count(0, &frames, &lost) == HOLDAMEK_COUNT_LIMIT && frames == 360000 && lost == 360000);
+    CHECK(holdamek_count(4, &frames, &lost) == HOLDAMEK_KIND_ABOVE_3);
+    frames = 0;
+    CHECK(holdamek_count(0, &frames, &lost) == HOLDAMEK_COUNT_LIMIT && frames == 0);
+    lost = 0xffffffffu;
+    CHECK(holdamek_count(1, &frames, &lost) == HOLDAMEK_COUNT_LIMIT && lost == 0xffffffffu);
+}
+
+int main(void)
+{
+    size_t n;
+
+    for (n = 0; n < HOLDAMEK_TABLE_WORDS; n++)
+        tables[n] = (int16_t)(7 * n % 1000);
+    tables[HOLDAMEK_TABLE_WORDS] = state[HOLDAMEK_STATE_WORDS] = samples[HOLDAMEK_FRAME_SAMPLES] = MARK;
+    of_tables();
+    of_fresh_state();
+    of_frame();
+    of_fields();
+    of_line();
+    of_count();
+    CHECK(tables[HOLDAMEK_TABLE_WORDS] == MARK);
+    printf("border: %d checks, %d failed\n", checks, failed);
+    return failed != 0;
+}
