@@ -9,8 +9,9 @@ use lib.Signed.{ltZ, shrZ}
 use Rattle.laws.specs.Lists.{at, length-tab}
 use Rattle.laws.specs.Loops.{steps, length-run}
 use Rattle.basic_op.specs.Ops.{add, sub}
-use Rattle.lsp.specs.Lsp.{codebook-sum, spread-pair, enforce-spacing, new-row, ma-prediction, invert-ma-prediction, order-and-bound, decode-lsf, erased-row, lsf-to-lsp}
-use Rattle.lsp.specs.Laws.{length-sort}
+use Rattle.sort.specs.Laws.{length-sort}
+use Rattle.lsp_ma.specs.Ma.{ma-prediction, invert-ma-prediction}
+use Rattle.lsp.specs.Lsp.{codebook-sum, spread-pair, enforce-spacing, new-row, order-and-bound, decode-lsf, erased-row, lsf-to-lsp}
 use Rattle.adaptive.specs.Adaptive.{adaptive-vector}
 use Rattle.gain.specs.Gain as gain
 use Rattle.synth.specs.Laws.{length-excitation, length-reconstruct-exc, length-reconstruct-speech}

@@ -1,11 +1,14 @@
 -- Counted loops: a step for each number below n, and words written in order. Assumes nothing.
 use mathlib.Core.Path.{_≡_, refl, ap, sym, _∙_}
+use mathlib.Core.Bool.{Bool, true, false, cond}
 use mathlib.Core.List.{List, [], _∷_, _++_, append-assoc, append-nil}
 use Prim.Native.Nat.{ℕ, zero, suc, _+_, _≤_, _<_}
 use native.Mathlib.Numerals.{add-one}
 use native.Mathlib.Nat.{add-zero, add-suc}
 use native.Mathlib.Omega.{arith}
 use lib.IntN.{ℤ, pos}
+use lib.Dec.{eqb}
+use borrow.Author.Tests.{eqb-true, eqb-false}
 use lib.ListN.{length, take, drop, set, length-set}
 use lib.Seq.{take-suc, take-suc-set, take-all}
 use Rattle.laws.specs.Lists.{at}
@@ -38,6 +41,48 @@ pub steps-same {ℓ} : {A : Type ℓ} (f g : ℕ → A → A) (n : ℕ) (s : A) 
 unfolding steps
 steps-same f g zero s h = refl
 steps-same f g (suc n) s h = h n (omega arith) (steps f n s) ∙ ap (g n) (steps-same f g n s (λ j k t. h j (omega arith) t))
+
+-- steps that change nothing
+pub steps-still {ℓ} : {A : Type ℓ} (f : ℕ → A → A) (n : ℕ) (s : A) → ((k : ℕ) → k < n → f k s ≡ s) → steps f n s ≡ s
+unfolding steps
+steps-still f zero s h = refl
+steps-still f (suc n) s h = ap (f n) (steps-still f n s (λ k b. h k (omega arith))) ∙ h n (omega arith)
+
+-- ---- a test of each number below n, with no early exit
+
+-- f holds of no number below n
+unfoldable pub nowhere : (ℕ → Bool) → ℕ → Bool
+nowhere f n = steps (λ k ok. cond (f k) false ok) n true
+
+pub nowhere-none : (f : ℕ → Bool) → true ≡ nowhere f 0
+unfolding nowhere steps
+nowhere-none f = refl
+
+-- one turn, for each outcome
+pub nowhere-hit : (f : ℕ → Bool) (n : ℕ) → f n ≡ true → false ≡ nowhere f (n + 1)
+unfolding nowhere steps
+nowhere-hit f n p = rw (add-one, p)
+
+pub nowhere-miss : (f : ℕ → Bool) (n : ℕ) (ok : Bool) → ok ≡ nowhere f n → f n ≡ false → ok ≡ nowhere f (n + 1)
+unfolding nowhere steps
+nowhere-miss f n ok e p = rw (add-one, p) e
+
+-- the last turn is behind
+pub nowhere-end : (f : ℕ → Bool) (n m : ℕ) (ok : Bool) → ok ≡ nowhere f n → n ≡ m → ok ≡ nowhere f m
+nowhere-end f n m ok e h = rw h at e
+
+pub nowhere-each : (f : ℕ → Bool) (n k : ℕ) → nowhere f n ≡ true → k < n → f k ≡ false
+unfolding nowhere steps
+nowhere-each f zero k e h = absurd (omega arith)
+nowhere-each f (suc n) k e h = go (λ i b. nowhere-each f n k i b) (f n) refl e
+  where
+    last : (nowhere f n ≡ true → k < n → f k ≡ false) → f n ≡ false → nowhere f n ≡ true → (t : Bool) → eqb k n ≡ t → f k ≡ false
+    last g q i true z = rw (eqb-true k n z) q
+    last g q i false z = g i (omega (arith, eqb-false k n z))
+
+    go : (nowhere f n ≡ true → k < n → f k ≡ false) → (t : Bool) → f n ≡ t → cond t false (nowhere f n) ≡ true → f k ≡ false
+    go g true q i = cc
+    go g false q i = last g q i (eqb k n) refl
 
 -- ---- n words written from place p on, in order; each may read all that is there before it is written
 

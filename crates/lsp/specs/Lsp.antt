@@ -7,17 +7,15 @@ use Prim.Native.Nat.{ℕ, _+_, _/_, _%_}
 use lib.IntN.{ℤ, pos}
 use lib.Signed.{ltZ, shrZ}
 use lib.Dec.{ltb}
-use lib.ListN.{getD, set, take}
+use lib.ListN.{set, take}
 use Rattle.laws.specs.Lists.{at, tab}
 use Rattle.laws.specs.Loops.{steps, run}
-use Rattle.basic_op.specs.Ops.{add, sub, mult, l-mult, l-mac, l-msu, l-shl, l-shr, extract-h, extract-l, l-deposit-h, low16, lesser, greater}
+use Rattle.basic_op.specs.Ops.{add, sub, mult, l-mult, l-shr, extract-l, low16, lesser, greater}
+use Rattle.sort.specs.Sort.{sort}
+use Rattle.lsp_ma.specs.Ma.{ma-prediction, invert-ma-prediction}
 use Rattle.tables.specs.Layout.{lsp-cb1, lsp-cb2, lsp-ma, lsp-ma-sum, lsp-ma-sum-inv, scalar}
 use Rattle.tables.specs.Formula.{lsp-cosine, lsp-cosine-slope}
 use Rattle.tables.specs.declared.Scalar.the-variants.{LsfStabilityLowLimit, LsfStabilityHighLimit, LsfStabilityMinDistance}
-
--- row k of a list of rows
-abbrev pub row : List (List ℤ) → ℕ → List ℤ
-row l k = getD l k []
 
 -- ---- clause 3.2.4: the codebooks
 
@@ -43,41 +41,13 @@ enforce-spacing spacing l = steps (spread-pair spacing) 9 l
 unfoldable pub new-row : List ℤ → ℕ → ℕ → ℕ → List ℤ
 new-row t l1 l2 l3 = enforce-spacing (pos 5) (enforce-spacing (pos 10) (codebook-sum t l1 l2 l3))
 
--- ---- clause 3.2.4: moving-average prediction
+-- ---- clause 3.2.4: the memory
 
--- the terms of the four past rows at word i, in order of age, added to a sum
-unfoldable pub add-past : List (List ℤ) → List (List ℤ) → ℕ → ℤ → ℤ
-add-past past weights i sum = steps (λ k s. l-mac s (at (row past k) i) (at (row weights k) i)) 4 sum
-
--- the same subtracted
-unfoldable pub subtract-past : List (List ℤ) → List (List ℤ) → ℕ → ℤ → ℤ
-subtract-past past weights i sum = steps (λ k s. l-msu s (at (row past k) i) (at (row weights k) i)) 4 sum
-
--- equation (20): the current term, weighted by the complement, then the past terms; the upper 16 bits, not rounded
-unfoldable pub ma-prediction : List ℤ → List (List ℤ) → List (List ℤ) → List ℤ → List ℤ
-ma-prediction l past weights complement = tab 10 (λ i. extract-h (add-past past weights i (l-mult (at l i) (at complement i))))
-
--- equation (92), clause 4.4.1: the row that gives omega with these past rows. The inverse of the complement is in Q12, so the product
--- is shifted left by 3.
-unfoldable pub invert-ma-prediction : List ℤ → List (List ℤ) → List (List ℤ) → List ℤ → List ℤ
-invert-ma-prediction omega past weights inverse =
-    tab 10 (λ i. extract-h (l-shl (l-mult (extract-h (subtract-past past weights i (l-deposit-h (at omega i)))) (at inverse i)) (pos 3)))
-
--- clause 3.2.4: the newest row goes first, and the oldest of the four is dropped
+-- the newest row goes first, and the oldest of the four is dropped
 unfoldable pub remember-output : List (List ℤ) → List ℤ → List (List ℤ)
 remember-output past l = l ∷ take 3 past
 
 -- ---- clause 3.2.4: order and bounds
-
--- x put before the first word that is not less
-unfoldable pub insert : ℤ → List ℤ → List ℤ
-insert x [] = x ∷ []
-insert x (y ∷ l) = cond (ltZ y x) (y ∷ insert x l) (x ∷ (y ∷ l))
-
--- the words in increasing order, as specs/Sorted.antt proves
-unfoldable pub sort : List ℤ → List ℤ
-sort [] = []
-sort (x ∷ l) = insert x (sort l)
 
 -- next, or previous plus the distance where it is nearer than that
 unfoldable pub keep-distance : ℤ → ℤ → ℤ → ℤ

@@ -1,4 +1,5 @@
 -- `lsp::cosine` meets its contract: a point, its slope over the rest, and their sum.
+use mathlib.Core.Path.{_∙_}
 use Prim.Native.Nat.{_%_}
 use mir.Syntax.{w16, w32}
 use mir.Facts.{toZ-ofZ}
@@ -15,7 +16,14 @@ unfolding cosine
 returns c =
     let s = c .before .before .before .before .before .before .before .before in
     let bits = c .before .before .before .before .before .before .before .low16 .result in
-    cc (came w16 (c .add), came w16 (c .before .extract-l), came w32 (c .before .before .l-shr), came w16 (c .before .before .before .lsp-cosine), came w32 (c .before .before .before .before .l-mult), came w16 (c .before .before .before .before .before .lsp-cosine-slope), toZ-pos w16 (bits % 256) (omega arith), toZ-ofZ (s .fits .freq))
+    let low = c .before .extract-l in
+    let p = c .before .before .l-shr in
+    let value = c .before .before .before .lsp-cosine in
+    let m = c .before .before .before .before in
+    let slope = m .before .lsp-cosine-slope in
+    came w16 (c .add)
+    ∙ (c .add .ensures
+    ∙ rw (came w16 low, low .ensures, came w32 p, p .ensures, came w32 (m .l-mult), m .l-mult .ensures, toZ-pos w16 (bits % 256) (omega arith), came w16 slope, slope .ensures, came w16 value, value .ensures, m .before .before .cosine-point .ensures, m .before .before .before .low16 .ensures, toZ-ofZ (s .fits .freq)))
 
 pub cosine-spec : {M : Type 1} → statement M
 cosine-spec =

@@ -1,38 +1,16 @@
--- `lsp::enforce_spacing` meets its contract: the first k pairs are apart.
-use mathlib.Core.Path.{_≡_, _∙_}
-use Prim.Native.Nat.{_-_, _≤_}
-use mir.Syntax.{w16}
-use mir.Val.{toZ}
+-- `lsp::enforce_spacing` meets its contract: a row that is spaced stays as it is.
+use mathlib.Core.Path.{sym, _∙_}
 use mir.Facts.{toZ-ofZ}
-use Rattle.laws.specs.Loops.{steps, steps-none, steps-turn, steps-end}
-use Rattle.lsp.specs.Lsp.{spread-pair, enforce-spacing}
+use Rattle.lsp.specs.Laws.{stays}
 use borrow.Author.Needs.{needs}
-use native.Mathlib.Omega.{arith}
 use Rattle.lsp.proofs.enforce_spacing.Statement.{statement}
 use Rattle.lsp.proofs.enforce_spacing.Tie as tie
 
-abbrev Inv-loop : tie.InvT-loop
-Inv-loop spacing out₀ k₀ out k = (k ≤ 9) × (out ≡ steps (spread-pair (toZ w16 spacing)) k out₀)
+returns : tie.Need-returns
+returns c = stays _ _ (sym (rw (toZ-ofZ (c .before .before .fits .spacing)) at (c .before .spaced .ensures)) ∙ c .if1 .taken)
 
-abbrev μ-loop : tie.MeasureT-loop
-μ-loop spacing out₀ k₀ out k = 9 - k
-
-loop-again : tie.Need-loop-again Inv-loop μ-loop
-loop-again c = (search needs, steps-turn _ _ _ _ _ (c .before .before .loop .inv .1) (c .spread-pair .ensures))
-
-returns : tie.Need-returns Inv-loop μ-loop
-unfolding enforce-spacing
-returns c = steps-end _ _ 9 _ _ (c .before .loop .inv .1) (omega arith) ∙ rw (toZ-ofZ (c .before .before .fits .spacing))
+returns-2 : tie.Need-returns-2
+returns-2 c = rw (toZ-ofZ (c .before .before .before .fits .spacing)) at (c .spread .ensures)
 
 pub enforce-spacing-spec : {M : Type 1} → statement M
-enforce-spacing-spec =
-    tie.close
-    (tie.spec
-    Inv-loop
-    μ-loop
-    (λ c. (search needs, steps-none _ _))
-    (λ c κs. search needs)
-    (λ c. search needs)
-    (λ c. search needs)
-    loop-again
-    returns)
+enforce-spacing-spec = tie.close (tie.spec (λ c κs. search needs) returns (λ c κs. search needs) returns-2)

@@ -1,4 +1,5 @@
 -- `lsp::halfway` meets its contract: two shifts and a sum.
+use mathlib.Core.Path.{_∙_}
 use mir.Syntax.{w16}
 use mir.Facts.{toZ-ofZ}
 use Rattle.laws.specs.Back.{came}
@@ -9,7 +10,9 @@ use Rattle.lsp.proofs.halfway.Tie as tie
 returns : tie.Need-returns
 returns c =
     let s = c .before .before .before in
-    cc (came w16 (c .add), came w16 (c .before .sar162), came w16 (c .before .before .sar16), toZ-ofZ (s .fits .prev), toZ-ofZ (s .fits .cur))
+    let a = c .before .before .sar16 in
+    let b = c .before .sar162 in
+    came w16 (c .add) ∙ (c .add .ensures ∙ rw (came w16 a, a .ensures, came w16 b, b .ensures, toZ-ofZ (s .fits .prev), toZ-ofZ (s .fits .cur)))
 
 pub halfway-spec : {M : Type 1} → statement M
 halfway-spec =

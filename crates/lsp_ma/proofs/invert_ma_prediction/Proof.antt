@@ -1,4 +1,4 @@
--- `lsp::invert_ma_prediction` meets its contract: the first i words are set.
+-- `lsp_ma::invert_ma_prediction` meets its contract: the first i words are set.
 use mathlib.Core.Path.{_≡_, refl}
 use Prim.Native.Nat.{_-_, _≤_}
 use lib.IntN.{pos}
@@ -7,24 +7,24 @@ use mir.Syntax.{w16}
 use Rattle.laws.specs.Lists.{at, filled, filled-none, fill, filled-end}
 use Rattle.laws.specs.Back.{via2}
 use Rattle.basic_op.specs.Ops.{l-mult, l-shl, extract-h, l-deposit-h}
-use Rattle.lsp.specs.Lsp.{subtract-past, invert-ma-prediction}
+use Rattle.lsp_ma.specs.Ma.{subtract-past, invert-ma-prediction}
 use borrow.Author.Needs.{needs}
 use native.Mathlib.Omega.{arith}
-use Rattle.lsp.proofs.invert_ma_prediction.Statement.{statement}
-use Rattle.lsp.proofs.invert_ma_prediction.Tie as tie
+use Rattle.lsp_ma.proofs.invert_ma_prediction.Statement.{statement}
+use Rattle.lsp_ma.proofs.invert_ma_prediction.Tie as tie
 
 abbrev Inv-loop : tie.InvT-loop
-Inv-loop past weights omega inverse out₀ i₀ out i = (i ≤ 10) × (out ≡ filled (λ j. extract-h (l-shl (l-mult (extract-h (subtract-past past weights j (l-deposit-h (at omega j)))) (at inverse j)) (pos 3))) i (replicate 10 (pos 0)))
+Inv-loop omega past weights inverse out₀ i₀ out i = (i ≤ 10) × (out ≡ filled (λ j. extract-h (l-shl (l-mult (extract-h (subtract-past past weights j (l-deposit-h (at omega j)))) (at inverse j)) (pos 3))) i (replicate 10 (pos 0)))
 
 abbrev μ-loop : tie.MeasureT-loop
-μ-loop past weights omega inverse out₀ i₀ out i = 10 - i
+μ-loop omega past weights inverse out₀ i₀ out i = 10 - i
 
 loop-again : tie.Need-loop-again Inv-loop μ-loop
 loop-again c =
-    let s = c .before .before .before .before .before in (
+    let s = c .before .before .before .before .before .before .before in (
       search needs,
-      fill _ _ _ _ _ (search needs) (c .before .before .before .before .loop .inv .1)
-          (via2 w16 w16 w16 (λ x y. extract-h (l-shl (l-mult (extract-h (subtract-past (s .args .past) (s .args .weights) (c .before .before .before .before .loop .i) (l-deposit-h x))) y) (pos 3))) _ _ (c .inverted .result) (c .before .before .inverted-arg .given) (c .before .inverted-arg2 .given) (c .inverted .ok) (c .inverted .ensures)),
+      fill _ _ _ _ _ (search needs) (c .before .before .before .before .before .before .loop .inv .1)
+          (via2 w16 w16 w16 (λ x y. extract-h (l-shl (l-mult (extract-h (subtract-past (s .args .t2) (s .args .t3) (c .before .before .before .before .before .before .loop .i) (l-deposit-h x))) y) (pos 3))) _ _ (c .inverted .result) (c .before .before .inverted-arg .given) (c .before .inverted-arg2 .given) (c .inverted .ok) (c .inverted .ensures)),
     )
 
 returns : tie.Need-returns Inv-loop μ-loop

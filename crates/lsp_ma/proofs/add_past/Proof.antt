@@ -1,4 +1,4 @@
--- `lsp::add_past` meets its contract: the terms of the first k rows are in the total.
+-- `lsp_ma::add_past` meets its contract: the terms of the first k rows are in the total.
 use mathlib.Core.Path.{_≡_, _∙_}
 use Prim.Native.Nat.{_-_, _≤_}
 use mir.Syntax.{w16, w32}
@@ -8,17 +8,17 @@ use Rattle.laws.specs.Lists.{at}
 use Rattle.laws.specs.Loops.{steps, steps-none, steps-turn, steps-end}
 use Rattle.laws.specs.Back.{via2}
 use Rattle.basic_op.specs.Ops.{l-mac}
-use Rattle.lsp.specs.Lsp.{row, add-past}
+use Rattle.lsp_ma.specs.Ma.{row, add-past}
 use borrow.Author.Needs.{needs}
 use native.Mathlib.Omega.{arith}
-use Rattle.lsp.proofs.add_past.Statement.{statement}
-use Rattle.lsp.proofs.add_past.Tie as tie
+use Rattle.lsp_ma.proofs.add_past.Statement.{statement}
+use Rattle.lsp_ma.proofs.add_past.Tie as tie
 
 abbrev Inv-loop : tie.InvT-loop
-Inv-loop i sum past weights total₀ k₀ total k = (k ≤ 4) × (toZ w32 total ≡ steps (λ j s. l-mac s (at (row past j) i) (at (row weights j) i)) k (toZ w32 sum))
+Inv-loop past weights i sum total₀ k₀ total k = (k ≤ 4) × (toZ w32 total ≡ steps (λ j s. l-mac s (at (row past j) i) (at (row weights j) i)) k (toZ w32 sum))
 
 abbrev μ-loop : tie.MeasureT-loop
-μ-loop i sum past weights total₀ k₀ total k = 4 - k
+μ-loop past weights i sum total₀ k₀ total k = 4 - k
 
 loop-again : tie.Need-loop-again Inv-loop μ-loop
 loop-again c = (

@@ -1,0 +1,2 @@
+-- What the prediction of the frequencies computes.
+pub mod Ma
