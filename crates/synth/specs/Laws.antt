@@ -12,7 +12,7 @@ use lib.Signed.{shrZ}
 use lib.ListN.{length, set, take, drop, length-map, drop-of-length-le}
 use lib.Seq.{getD-set-other, set-comm, set-set, set-at, getD-at, drop-cons, take-suc, take-all, length-take-le, append-snoc}
 use Rattle.laws.specs.Lists.{at}
-use Rattle.laws.specs.Loops.{steps, steps-none, steps-turn, run, write, length-run}
+use Rattle.laws.specs.Loops.{steps-none, steps-turn, steps-same, run, write, length-run}
 use Rattle.basic_op.specs.Ops.{l-mult, l-msu, l-shl, round, l-mult-overflow, l-msu-overflow, l-shl3-overflow, round-overflow}
 use Rattle.synth.specs.Synth.{exc-start, speech-start, excitation, synth-sum, synth-sum-overflow, synth-sample, synth-overflow, any, samples, overflow-at, synthesis, saturates, divide-by-4, reconstruct-exc, reconstruct-speech}
 
@@ -108,15 +108,10 @@ module _ (f : ℕ → List ℤ → ℤ) (p : ℕ) (causal : Causal f p) where
 
 -- ---- synthesis is causal
 
-steps-same : (f g : ℕ → ℤ → ℤ) (n : ℕ) (s : ℤ) → ((i : ℕ) (r : ℤ) → f i r ≡ g i r) → steps f n s ≡ steps g n s
-unfolding steps
-steps-same f g zero s e = refl
-steps-same f g (suc n) s e = rw (steps-same f g n s e) (e n (steps g n s))
-
 sample-causal : (a : List ℤ) (x : ℤ) (y : List ℤ) (n j : ℕ) (v : ℤ) → 0 < n → n ≤ j → synth-sample a x (set y j v) n ≡ synth-sample a x y n
 unfolding synth-sample synth-sum
 sample-causal a x y n j v h q =
-    ap (λ (s : ℤ). round (l-shl s (pos 3))) (steps-same _ _ 10 (l-mult x (at a 0)) (λ i r. ap (l-msu r (at a (i + 1))) (getD-set-other y j (n - (i + 1)) v (pos 0) (λ e. omega arith))))
+    ap (λ (s : ℤ). round (l-shl s (pos 3))) (steps-same _ _ 10 (l-mult x (at a 0)) (λ i b r. ap (l-msu r (at a (i + 1))) (getD-set-other y j (n - (i + 1)) v (pos 0) (λ e. omega arith))))
 
 start-pos : (second : Bool) → 0 < speech-start second
 unfolding speech-start

@@ -1,8 +1,14 @@
 // Excitation and synthesis: G.729 clause 4.1.6, equations (75) and (77). The caller lends the frame's 234 words of
 // excitation (154 of the past, then 80) and its 90 words of speech (the last ten samples before it, then 80).
 ghost use mathlib.Core.Path.{_≡_};
-ghost use Prim.Native.Nat.{_≤_};
+ghost use Prim.Native.Nat.{_-_, _≤_, _<_};
+ghost use mathlib.Core.Bool.{false};
+ghost use mathlib.Core.List.{List};
+ghost use lib.IntN.{ℤ, natAbs, _*ℤ_};
+ghost use lib.Signed.{mag};
+ghost use Rattle.laws.specs.Lists.{at};
 ghost use Rattle.synth.specs.Synth.{exc-start, speech-start, excite, excitation, synth-sample, synth-overflow, synthesis, saturates, divide-by-4, reconstruct-exc, reconstruct-speech};
+ghost use Rattle.synth.specs.Fast.{weight, weights, whole-sum, Past, Reached};
 
 // The place of the subframe's first word of excitation.
 fn exc_start(second: bool) -> usize
@@ -21,10 +27,24 @@ fn speech_start(second: bool) -> usize
     if second { 50 } else { 10 }
 }
 
-// One word of the excitation, from gp (Q14), gc (Q1), v (Q0) and c (Q13).
+// `excite` where neither gain is -32768: no product saturates, and the saturating steps behind them end like one clamp.
+fn excite_whole(gp: i16, gc: i16, v: i16, c: i16) -> i16
+    requires { ⌜ natAbs gp ≤ 32767 ⌝ }
+    requires { ⌜ natAbs gc ≤ 32767 ⌝ }
+    ensures { λ r. ⌜ r ≡ excite gp gc v c ⌝ }
+{
+    let sum = v as i32 * gp as i32 + c as i32 * gc as i32;
+    basic_op::sat16(basic_op::sar32(sum + 8192, 14))
+}
+
+// One word of the excitation, from gp (Q14), gc (Q1), v (Q0) and c (Q13). The test is of the gains alone, so that the compiler takes it out of
+// the loop below.
 fn excite(gp: i16, gc: i16, v: i16, c: i16) -> i16
     ensures { λ r. ⌜ r ≡ excite gp gc v c ⌝ }
 {
+    if (gp > -32768) & (gc > -32768) {
+        return excite_whole(gp, gc, v, c);
+    }
     let l = basic_op::l_mac(basic_op::l_mult(v, gp), c, gc);
     basic_op::round(basic_op::l_shl(l, 1))
 }
@@ -69,21 +89,132 @@ fn synth_sample(a: &[i16; 11], x: i16, y: &[i16; 90], n: usize) -> Sample
     }
 }
 
-// Equation (77): writes the subframe's 40 samples, and says whether an operation saturated.
-pub fn synthesize(a: &[i16; 11], exc: &[i16; 234], second: bool, speech: &mut [i16; 90]) -> bool
-    ensures { λ r. ⌜ r ≡ saturates second (now (a .entry)) (now (exc .entry)) (now (speech .entry)) ⌝ }
-    ensures { λ r. ⌜ now (speech .exit) ≡ synthesis second (now (a .entry)) (now (exc .entry)) (now (speech .entry)) ⌝ }
+// The size of a coefficient; -32768, whose products may saturate, weighs too much for any filter.
+fn weight(c: i16) -> u32
+    ensures { λ r. ⌜ r ≡ weight c ⌝ }
+    ensures { λ r. ⌜ r ≤ 61440 ⌝ }
+{
+    if c < -32767 {
+        61440
+    } else if c < 0 {
+        (0 - c as i32) as u32
+    } else {
+        c as u32
+    }
+}
+
+// The weight of the whole filter.
+fn weights(a: &[i16; 11]) -> u32
+    ensures { λ r. ⌜ r ≡ weights (now (a .entry)) 10 ⌝ }
+{
+    let mut w = weight(a[0]);
+    for i in 0..10 {
+        w = w + weight(a[i + 1]);
+    }
+    w
+}
+
+fn product(a: i16, b: i16) -> i64
+    ensures { λ r. ⌜ r ≡ a *ℤ b ⌝ }
+    ensures { λ r. ⌜ mag r < 2147483648 ⌝ }
+{
+    a as i64 * b as i64
+}
+
+// The sum of a sample with no saturation. The newest past sample, which the sum waits for, comes last, and not through memory.
+fn whole_sum(a: &[i16; 11], x: i16, newest: i16, y: &[i16; 90], n: usize) -> i64
+    requires { ⌜ newest ≡ at (now y) (n - 1) ⌝ }
+    requires { ⌜ n ≤ 90 ⌝ }
+    requires { ⌜ 10 ≤ n ⌝ }
+    ensures { λ r. ⌜ r ≡ whole-sum (now (a .entry)) x (now (y .entry)) n ⌝ }
+    ensures { λ r. ⌜ Past (now (y .entry)) n 0 ⌝ }
+{
+    let mut l = product(x, a[0]);
+    for i in 0..9 {
+        let k = 10 - i;
+        l = l - product(a[k], y[n - k]);
+    }
+    l - product(a[1], newest)
+}
+
+// A sample as its whole sum rounded, for a filter so light that no operation on the way saturates if the sum ends in range.
+// Where the sum does not, the flag is set and the word says nothing.
+fn whole_sample(a: &[i16; 11], x: i16, newest: i16, y: &[i16; 90], n: usize) -> Sample
+    requires { ⌜ weights (now a) 10 ≤ 61439 ⌝ }
+    requires { ⌜ newest ≡ at (now y) (n - 1) ⌝ }
+    requires { ⌜ n ≤ 90 ⌝ }
+    requires { ⌜ 10 ≤ n ⌝ }
+    ensures { λ r. ⌜ (r .overflow ≡ false → (r .word ≡ synth-sample (now (a .entry)) x (now (y .entry)) n) × (false ≡ synth-overflow (now (a .entry)) x (now (y .entry)) n)) ⌝ }
+{
+    let l = whole_sum(a, x, newest, y, n);
+    if (l < 134215680) & (l > -134217729) {
+        let word = basic_op::sar64(l + 2048, 12) as i16;
+        return Sample {
+            word,
+            overflow: false,
+        };
+    }
+    Sample {
+        word: 0,
+        overflow: true,
+    }
+}
+
+// Writes the subframe's samples by their whole sums, up to the first that may saturate, and says how many. The plain form has a loop
+// of its own, since with both in one the compiler runs out of registers.
+fn whole_samples(a: &[i16; 11], exc: &[i16; 234], second: bool, speech: &mut [i16; 90]) -> usize
+    ensures { λ r. ⌜ r ≤ 40 ⌝ }
+    ensures { λ r. ⌜ Reached second (now (a .entry)) (now (exc .entry)) (now (speech .entry)) (now (speech .exit)) false r ⌝ }
+{
+    let from = exc_start(second);
+    let start = speech_start(second);
+    if weights(a) > 61439 {
+        return 0;
+    }
+    let mut newest = speech[start - 1];
+    for n in 0..40 {
+        let s = whole_sample(a, exc[from + n], newest, speech, start + n);
+        if s.overflow {
+            return n;
+        }
+        let word = s.word;
+        speech[start + n] = word;
+        newest = speech[start + n];
+    }
+    40
+}
+
+// Writes the subframe's samples from number `done` on, operation by operation, and says whether one of them saturated. The contract speaks of
+// any speech y of which the first `done` samples made the one lent.
+fn plain_samples(
+    a: &[i16; 11],
+    exc: &[i16; 234],
+    second: bool,
+    speech: &mut [i16; 90],
+    done: usize,
+) -> bool
+    requires { ⌜ done ≤ 40 ⌝ }
+    ensures { λ r. ⌜ ((y : List ℤ) → Reached second (now (a .entry)) (now (exc .entry)) y (now (speech .entry)) false done → Reached second (now (a .entry)) (now (exc .entry)) y (now (speech .exit)) r 40) ⌝ }
 {
     let from = exc_start(second);
     let start = speech_start(second);
     let mut saturated = false;
-    for n in 0..40 {
+    for n in done..40 {
         let s = synth_sample(a, exc[from + n], speech, start + n);
         let word = s.word;
         speech[start + n] = word;
         saturated = saturated | s.overflow;
     }
     saturated
+}
+
+// Equation (77): writes the subframe's 40 samples, and says whether an operation saturated.
+pub fn synthesize(a: &[i16; 11], exc: &[i16; 234], second: bool, speech: &mut [i16; 90]) -> bool
+    ensures { λ r. ⌜ r ≡ saturates second (now (a .entry)) (now (exc .entry)) (now (speech .entry)) ⌝ }
+    ensures { λ r. ⌜ now (speech .exit) ≡ synthesis second (now (a .entry)) (now (exc .entry)) (now (speech .entry)) ⌝ }
+{
+    let done = whole_samples(a, exc, second, speech);
+    plain_samples(a, exc, second, speech, done)
 }
 
 // The whole excitation, divided by 4.

@@ -1,0 +1,71 @@
+-- Laws of differences of whole numbers: their size without the sign, their doubles, and a loop that takes terms off. Assumes nothing.
+use Prim.Native.Nat.{ℕ, zero, suc, _+_, _*_, _≤_}
+use mathlib.Core.Path.{_≡_, refl, sym, ap, _∙_}
+use mathlib.Core.Logic.{⊎-elim}
+use native.Mathlib.Nat.{eq-or-lt-of-le, le-refl, le-trans, le-of-eq}
+use native.Mathlib.Omega.{arith}
+use lib.IntN.{ℤ, pos, negsuc, negℤ, natAbs, _+ℤ_, _-ℤ_, _*ℤ_, negℤ-negℤ, -ℤ-+ℤ-cancel}
+use Rattle.laws.specs.Loops.{steps}
+use Rattle.laws.specs.Sums.{abs-add}
+use Rattle.laws.specs.Ints.{add-swap, add-mul}
+
+-- ---- size
+
+abs-neg : (z : ℤ) → natAbs (negℤ z) ≡ natAbs z
+abs-neg (pos zero) = refl
+abs-neg (pos (suc n)) = refl
+abs-neg (negsuc n) = refl
+
+pub abs-sub : (a b : ℤ) → natAbs (a -ℤ b) ≤ natAbs a + natAbs b
+abs-sub a b = omega (arith, abs-add a (negℤ b), abs-neg b)
+
+pub abs-back : (a b : ℤ) → natAbs a ≤ natAbs (a -ℤ b) + natAbs b
+abs-back a b = le-trans (le-of-eq (ap natAbs (sym (-ℤ-+ℤ-cancel a b)))) (abs-add (a -ℤ b) b)
+
+-- ---- negative numbers, by the size of what they negate
+
+pub neg-is : (k j : ℕ) → k ≡ suc j → negℤ (pos k) ≡ negsuc j
+neg-is k j e = rw e
+
+-- ---- doubles
+
+double-neg : (b : ℤ) → pos 2 *ℤ negℤ b ≡ negℤ (pos 2 *ℤ b)
+double-neg (pos zero) = refl
+double-neg (pos (suc n)) = refl
+double-neg (negsuc n) = sym (negℤ-negℤ (pos (2 * suc n)))
+
+pub double-sub : (a b : ℤ) → pos 2 *ℤ (a -ℤ b) ≡ pos 2 *ℤ a -ℤ pos 2 *ℤ b
+double-sub a b = add-mul (pos 2) a (negℤ b) ∙ rw (double-neg b)
+
+-- ---- terms taken off one by one
+
+-- l without the first k terms
+abbrev pub less : (ℕ → ℤ) → ℕ → ℤ → ℤ
+less t k l = steps (λ i r. r -ℤ t i) k l
+
+-- the sizes of the first k terms together
+abbrev pub sizes : (ℕ → ℤ) → ℕ → ℕ
+sizes t k = steps (λ i r. r + natAbs (t i)) k 0
+
+module _ (t : ℕ → ℤ) where
+  -- a term may be taken off before the others
+  pub less-first : (k : ℕ) (l u : ℤ) → less t k (l -ℤ u) ≡ less t k l -ℤ u
+  unfolding steps
+  less-first zero l u = refl
+  less-first (suc k) l u = rw (less-first k l u) (add-swap (less t k l) (negℤ u) (negℤ (t k)))
+
+  module _ (l : ℤ) where
+    less-above : (k : ℕ) → natAbs (less t k l) ≤ natAbs l + sizes t k
+    unfolding steps
+    less-above zero = omega arith
+    less-above (suc k) = omega (arith, abs-sub (less t k l) (t k), less-above k)
+
+    less-below : (m k : ℕ) → k ≤ m → natAbs (less t k l) + sizes t k ≤ natAbs (less t m l) + sizes t m
+    unfolding steps
+    less-below zero zero h = omega arith
+    less-below zero (suc k) h = absurd (omega arith)
+    less-below (suc m) k h = ⊎-elim (λ e. rw e (le-refl _)) (λ q. omega (arith, less-below m k (omega arith), abs-back (less t m l) (t m))) (eq-or-lt-of-le h)
+
+    -- on the way from l to its end no value is larger than half of both and all terms together
+    pub less-between : (m k b : ℕ) → k ≤ m → natAbs l + sizes t m + natAbs (less t m l) ≤ b → 2 * natAbs (less t k l) ≤ b
+    less-between m k b h q = omega (arith, less-above k, less-below m k h)
