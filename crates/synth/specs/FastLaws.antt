@@ -18,13 +18,12 @@ use Rattle.laws.specs.Lists.{at}
 use Rattle.laws.specs.Loops.{steps, run-none}
 use Rattle.laws.specs.Range.{abs-mul, mag-abs, mag-shr-less}
 use Rattle.laws.specs.Sums.{abs-add}
-use Rattle.laws.specs.Ints.{add-mul}
 use Rattle.basic_op.specs.Ops.{sat, sat16, sat32, l-add, l-sub, l-mult, l-mac, l-msu, l-shl, by-sign, extract-h, round, overflow, l-mult-overflow, l-msu-overflow, l-shl3-overflow, round-overflow}
 use Rattle.basic_op.specs.Laws.{sat-id}
 use Rattle.synth.specs.Synth.{excite, synth-sum, synth-sum-overflow, synth-sample, synth-overflow, samples}
 use Rattle.synth.specs.Laws.{any-none}
 use Rattle.synth.specs.Fast.{term, whole-sum, weight, weights, Past, Reached}
-use Rattle.synth.specs.Whole.{neg-is, double-sub, less, sizes, less-first, less-between}
+use Rattle.synth.specs.Whole.{neg-is, double-add, double-sub, less, sizes, less-first, less-between}
 
 -- ---- the weight of the coefficients
 
@@ -303,7 +302,7 @@ module _ (gp gc v c : ℤ) (hp : natAbs gp ≤ 32767) (hc : natAbs gc ≤ 32767)
   pub excite-whole : sat16 (shrZ (v *ℤ gp +ℤ c *ℤ gc +ℤ pos 8192) (2 ^ 14)) ≡ excite gp gc v c
   unfolding excite l-mac l-mult l-add
   excite-whole =
-      rw (sat-id 2147483647 (pos 2 *ℤ (v *ℤ gp)) (double-mag (v *ℤ gp) (omega (arith, adaptive-size))), sat-id 2147483647 (pos 2 *ℤ (c *ℤ gc)) (double-mag (c *ℤ gc) (omega (arith, fixed-size))), ← add-mul (pos 2) (v *ℤ gp) (c *ℤ gc))
+      rw (sat-id 2147483647 (pos 2 *ℤ (v *ℤ gp)) (double-mag (v *ℤ gp) (omega (arith, adaptive-size))), sat-id 2147483647 (pos 2 *ℤ (c *ℤ gc)) (double-mag (c *ℤ gc) (omega (arith, fixed-size))), ← double-add (v *ℤ gp) (c *ℤ gc))
       (sym (clamped (v *ℤ gp +ℤ c *ℤ gc)))
 
 -- ---- the samples of a subframe

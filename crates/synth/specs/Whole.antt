@@ -4,10 +4,10 @@ use mathlib.Core.Path.{_≡_, refl, sym, ap, _∙_}
 use mathlib.Core.Logic.{⊎-elim}
 use native.Mathlib.Nat.{eq-or-lt-of-le, le-refl, le-trans, le-of-eq}
 use native.Mathlib.Omega.{arith}
-use lib.IntN.{ℤ, pos, negsuc, negℤ, natAbs, _+ℤ_, _-ℤ_, _*ℤ_, negℤ-negℤ, -ℤ-+ℤ-cancel}
+use lib.IntN.{ℤ, pos, negsuc, negℤ, natAbs, _+ℤ_, _-ℤ_, _*ℤ_, negℤ-negℤ, -ℤ-+ℤ-cancel, *ℤ-comm}
 use Rattle.laws.specs.Loops.{steps}
 use Rattle.laws.specs.Sums.{abs-add}
-use Rattle.laws.specs.Ints.{add-swap, add-mul}
+use Rattle.laws.specs.Ints.{add-swap, mul-add}
 
 -- ---- size
 
@@ -29,13 +29,17 @@ neg-is k j e = rw e
 
 -- ---- doubles
 
+pub double-add : (a b : ℤ) → pos 2 *ℤ (a +ℤ b) ≡ pos 2 *ℤ a +ℤ pos 2 *ℤ b
+double-add a b =
+    *ℤ-comm (pos 2) (a +ℤ b) ∙ mul-add a b (pos 2) ∙ ap (λ (z : ℤ). z +ℤ b *ℤ pos 2) (*ℤ-comm a (pos 2)) ∙ ap (λ (z : ℤ). pos 2 *ℤ a +ℤ z) (*ℤ-comm b (pos 2))
+
 double-neg : (b : ℤ) → pos 2 *ℤ negℤ b ≡ negℤ (pos 2 *ℤ b)
 double-neg (pos zero) = refl
 double-neg (pos (suc n)) = refl
 double-neg (negsuc n) = sym (negℤ-negℤ (pos (2 * suc n)))
 
 pub double-sub : (a b : ℤ) → pos 2 *ℤ (a -ℤ b) ≡ pos 2 *ℤ a -ℤ pos 2 *ℤ b
-double-sub a b = add-mul (pos 2) a (negℤ b) ∙ rw (double-neg b)
+double-sub a b = double-add a (negℤ b) ∙ rw (double-neg b)
 
 -- ---- terms taken off one by one
 
