@@ -9,7 +9,7 @@ use native.Mathlib.Nat.{sub-zero}
 use lib.Dec.{eqb, leb, ltb}
 use lib.IntN.{ℤ, pos}
 use lib.ListN.{length, getD, take, drop, set, replicate, drop-of-length-le, length-append, length-take, length-drop, take-append-drop}
-use lib.Seq.{drop-cons, drop-length, take-length, take-all, drop-drop, append-snoc, take-at, drop-at, paste, paste-suc, drop-paste, take-paste}
+use lib.Seq.{drop-cons, drop-length, take-length, take-all, drop-drop, append-snoc, take-at, drop-at, paste, paste-suc, length-paste, drop-paste, take-paste}
 use borrow.Author.Tests.{lt-ltb, le-ltb, le-leb, lt-leb, eq-eqb, ne-eqb, eqb-true, eqb-false, leb-true, leb-false}
 use Rattle.count.specs.declared.Counts.{Counts}
 use Rattle.count.specs.declared.Counted.{Counted}
@@ -141,7 +141,7 @@ module _ (t : List ℤ) (job : Job) (room : ℕ) where
       by : (p : Bool) → cond p 0 (suc (to-feed l)) < suc (length l)
           → (to-feed l < length l → part t job room (held ++ (b ∷ [])) l ≡ follow t room (drop (suc (to-feed l)) l) (line-step t job ((held ++ (b ∷ [])) ++ take (to-feed l) l)))
           → cond p (follow t room l (line-step t job held)) (part t job room (held ++ (b ∷ [])) l)
-              ≡ follow t room (drop (cond p 0 (suc (to-feed l))) l) (line-step t job (held ++ take (cond p 0 (suc (to-feed l))) (b ∷ l)))
+          ≡ follow t room (drop (cond p 0 (suc (to-feed l))) l) (line-step t job (held ++ take (cond p 0 (suc (to-feed l))) (b ∷ l)))
       by true h f = rw append-nil
       by false h f = f (omega arith) ∙ rw (append-snoc held b (take (to-feed l) l))
 
@@ -215,17 +215,23 @@ pub going-on : (b : List ℤ) (from : Counted) → from .code ≡ 0 → going b 
 unfolding kept
 going-on b from e = rw e
 
+-- what is behind a line that was taken
+taken-more : (t : List ℤ) (p v text : List ℕ) (room : ℕ) (s : Step) {q : List ℕ} {room′ : ℕ} {next : Job} → length v ≡ 327 → s .text ≡ v → p ++ v ≡ q → s .job ≡ next → room - 327 ≡ room′
+    → behind p (follow t room text s) ≡ behind q (part t next room′ [] text)
+unfolding behind follow
+taken-more t p v text room s lv e g h k = rw (e, lv, ← g, h, k, append-assoc)
+
 module _ (t b₀ : List ℤ) (counts₀ : Counts) (input out₀ : List ℕ) (b : List ℤ) (counts : Counts) (out : List ℕ) (used written : ℕ)
     (f : So-far t b₀ counts₀ input out₀ b counts out used written) {job : Job} (hj : going b₀ counts₀ ≡ job) where
-  finished : {p : Part} {now : Job} → part t (going b₀ counts₀) (length out₀) [] input ≡ behind (take written out) (none now (drop used input))
+  finished : (now : Job) (used : ℕ) → used ≤ length input → part t (going b₀ counts₀) (length out₀) [] input ≡ behind (take written out) (none now (drop used input))
       → answer now used written out ≡ lines t job input out₀
   unfolding lines
-  finished {p} {now} e = rw (← hj) (ending input out out₀ now used written _ (f .inside) (f .fits) (f .length-out) (f .rest) e)
+  finished now used k e = rw (← hj) (ending input out out₀ now used written _ k (f .fits) (f .length-out) (f .rest) e)
 
   -- the output is full
   pub lines-full : length out - written < 327 → answer (going b counts) used written out ≡ lines t job input out₀
   lines-full h =
-      finished (f .parts ∙ rw (part-stop t (going b counts) (length out₀ - written) [] (drop used input) (full (going b counts) (length out₀ - written) (omega (arith, f .length-out)))))
+      finished (going b counts) used (f .inside) (f .parts ∙ rw (part-stop t (going b counts) (length out₀ - written) [] (drop used input) (full (going b counts) (length out₀ - written) (omega (arith, f .length-out)))))
 
   module _ (h : 327 ≤ length out - written) where
     open-room : goes-on (going b counts) (length out₀ - written) ≡ true
@@ -235,7 +241,7 @@ module _ (t b₀ : List ℤ) (counts₀ : Counts) (input out₀ : List ℕ) (b :
     -- there is no line feed behind
     pub lines-open : {end : ℕ} → end ≡ used + to-feed (drop used input) → end ≡ length input → answer (going b counts) used written out ≡ lines t job input out₀
     lines-open g e =
-        finished (f .parts ∙ rw (part-open t (going b counts) (length out₀ - written) [] (drop used input) open-room (rw length-drop (omega arith))))
+        finished (going b counts) used (f .inside) (f .parts ∙ rw (part-open t (going b counts) (length out₀ - written) [] (drop used input) open-room (rw length-drop (omega arith))))
 
     -- a line
     module _ (end : ℕ) (g : end ≡ used + to-feed (drop used input)) (n : end ≡ length input → ⊥) (k : end ≤ length input) where
@@ -248,3 +254,45 @@ module _ (t b₀ : List ℤ) (counts₀ : Counts) (input out₀ : List ℕ) (b :
           let x : to-feed (drop used input) ≡ end - used = omega arith in
           let y : used + suc (end - used) ≡ end + 1 = omega arith in
           f .parts ∙ rw (part-line t (going b counts) (length out₀ - written) [] (drop used input) open-room less, x, drop-drop, y)
+
+      module _ (r : Counted) (b′ : List ℤ) (hr : kept b′ r ≡ line-step t (going b counts) (take (end - used) (drop used input)) .job) where
+        code-is : line-step t (going b counts) (take (end - used) (drop used input)) .job .code ≡ r .code
+        unfolding kept
+        code-is = sym (ap (λ (x : Job). x .code) hr)
+
+        -- that is refused
+        pub lines-not : (r .code ≡ 0 → ⊥) → answer (kept b′ r) (end + 1) written out ≡ lines t job input out₀
+        unfolding follow behind none
+        lines-not z =
+            let s : Step = line-step t (going b counts) (take (end - used) (drop used input)) in
+            let q : s .job .code ≡ 0 → ⊥ = λ e. z (sym code-is ∙ e) in
+            let p : s .text ≡ [] = sized t (going b counts) (take (end - used) (drop used input)) .silent q in
+            finished (kept b′ r) (end + 1) (omega arith)
+            (after ∙ rw (p, part-stop t (s .job) (length out₀ - written - 0) [] (drop (end + 1) input) (ended (s .job) (length out₀ - written - 0) q), ← hr))
+
+        -- that is taken
+        module _ (z : r .code ≡ 0) (text₀ : List ℕ) {text : List ℕ} (ht : text ≡ left (line-step t (going b counts) (take (end - used) (drop used input))) text₀) where
+          text-is : text ≡ line-step t (going b counts) (take (end - used) (drop used input)) .text
+          unfolding left
+          text-is = ht ∙ rw (eq-eqb (line-step t (going b counts) (take (end - used) (drop used input)) .job .code) 0 (code-is ∙ z))
+
+          pub text-length : length text ≡ 327
+          text-length = rw text-is (sized t (going b counts) (take (end - used) (drop used input)) .whole (code-is ∙ z))
+
+          pub turn : {out′ : List ℕ} → length b′ ≡ length b → out′ ≡ paste out written text 327
+              → So-far t b₀ counts₀ input out₀ b′ (r .counts) out′ (end + 1) (written + 327)
+          turn {out′} lb e =
+              let w : written ≤ length out = omega arith in
+              let lw : length text ≡ 327 = text-length in
+              let lt : 327 ≤ length text = omega (arith, text-length) in
+              let lo : length out′ ≡ length out = rw e (length-paste out written text 327 (omega arith) lt) in
+              let x : take (written + 327) out′ ≡ take written out ++ text = rw e (take-paste out written text 327 w lt ∙ rw (take-all 327 text (omega (arith, text-length)))) in
+              let y : drop (written + 327) out′ ≡ drop (written + 327) out = rw e (drop-paste out written text 327 w lt) in
+              record {
+                inside = omega arith;
+                fits = omega (arith, f .length-out);
+                length-b = lb ∙ f .length-b;
+                length-out = lo ∙ f .length-out;
+                rest = y ∙ sym (drop-drop 327 written out) ∙ rw (f .rest) (drop-drop 327 written out₀);
+                parts = after ∙ taken-more t _ text _ _ _ lw (sym text-is) (sym x) (sym hr ∙ sym (going-on b′ r z)) (omega arith);
+              }

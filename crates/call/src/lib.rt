@@ -20,7 +20,7 @@ pub struct Taken {
 // The place of the first line feed from `from` on, or the end.
 fn line_end(input: &[u8], from: usize) -> usize
     requires { ⌜ from ≤ length (now input) ⌝ }
-    ensures { λ r. ⌜ r ≡ from + to-feed (drop from (now (input .entry))) ⌝ }
+    ensures { λ r. ⌜ (r ≡ from + to-feed (drop from (now (input .entry)))) × (r ≤ length (now (input .entry))) ⌝ }
 {
     let mut i = from;
     while i < input.len() {
@@ -46,7 +46,13 @@ fn copy(text: &[u8; 327], out: &mut [u8], at: usize)
 
 // One line, without its line feed: the operations Line, Count and Frame, in this order. The first refusal is answered, with the counts as they were; else
 // 0 with the frame counted, and `(pcm H)` in `out`.
-pub fn line_step(t: &[i16], b: &mut [i16], counts: Counts, text: &[u8], out: &mut [u8; 327]) -> Counted
+pub fn line_step(
+    t: &[i16],
+    b: &mut [i16],
+    counts: Counts,
+    text: &[u8],
+    out: &mut [u8; 327],
+) -> Counted
     ensures { λ r. ⌜ kept (now (b .exit)) r ≡ line-step (now (t .entry)) (kept (now (b .entry)) (record { code = 0; counts = counts })) (now (text .entry)) .job ⌝ }
     ensures { λ r. ⌜ now (out .exit) ≡ left (line-step (now (t .entry)) (kept (now (b .entry)) (record { code = 0; counts = counts })) (now (text .entry))) (now (out .entry)) ⌝ }
 {

@@ -22,7 +22,7 @@ returns : tie.Need-returns Inv-loop μ-loop
 returns c =
     let l = c .before .before .before in
     let s = l .before .args in
-    omega (arith, l .loop .inv .1 .1, feed-here (s .input .now) (l .loop .i) (omega arith) (c .if1 .taken))
+    (omega (arith, l .loop .inv .1 .1, feed-here (s .input .now) (l .loop .i) (omega arith) (c .if1 .taken)), search needs)
 
 loop-again : tie.Need-loop-again Inv-loop μ-loop
 loop-again c =
@@ -34,7 +34,7 @@ returns-2 : tie.Need-returns-2 Inv-loop μ-loop
 returns-2 c =
     let l = c .before in
     let s = l .before .args in
-    omega (arith, l .loop .inv .1 .1, feed-end (s .input .now) (l .loop .i) (omega arith))
+    (omega (arith, l .loop .inv .1 .1, feed-end (s .input .now) (l .loop .i) (omega arith)), search needs)
 
 pub line-end-spec : {M : Type 1} → statement M
 line-end-spec =

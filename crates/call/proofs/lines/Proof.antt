@@ -1,104 +1,90 @@
+-- `call::lines` meets its contract: the lines taken, and the lines that the definition takes from what is behind them, are those of the whole.
+use mathlib.Core.Path.{_≡_, sym}
+use Prim.Native.Nat.{_-_}
+use native.Mathlib.Omega.{arith}
+use lib.ListN.{length}
+use denote.Ref.{now}
+use borrow.Author.Needs.{needs}
+use Rattle.call.specs.Laws.{So-far, so-far-none, lines-refused, going-on, lines-full, lines-open, lines-not, text-length, turn}
 use Rattle.call.proofs.lines.Statement.{statement}
 use Rattle.call.proofs.lines.Tie as tie
-use Rattle.call.proofs.lines.Reads as reads
-use Rattle.call.proofs.lines.Lts as lts
-use Rattle.call.proofs.copy.Reads as copy-reads
-use Rattle.call.proofs.line_end.Reads as line-end-reads
-use Rattle.call.proofs.line_step.Reads as line-step-reads
 
 abbrev Inv-loop : tie.InvT-loop
-Inv-loop t b₀ input out₀ counts₀ text₀ used₀ written₀ b out counts text used written = ?
+Inv-loop t b₀ input out₀ counts₀ text₀ used₀ written₀ b out counts text used written = So-far t b₀ counts₀ input out₀ b counts out used written
 
 abbrev μ-loop : tie.MeasureT-loop
-μ-loop t b₀ input out₀ counts₀ text₀ used₀ written₀ b out counts text used written = ?
+μ-loop t b₀ input out₀ counts₀ text₀ used₀ written₀ b out counts text used written = length out₀ - written
 
--- src/lib.rt:84:9
 returns : tie.Need-returns Inv-loop μ-loop
-returns c = ?
+returns c =
+    let s = c .before .before .before .before .args in
+    lines-refused (now (s .t)) (now (s .b)) (s .from) (now (s .input)) (now (s .out)) (c .if1 .taken)
 
--- src/lib.rt:94:5
 loop-holds : tie.Need-loop-holds Inv-loop μ-loop
-loop-holds c = ?
+loop-holds c = so-far-none _ _ _ _ _
 
--- src/lib.rt:94:18
-sub-loop : tie.Need-sub-loop Inv-loop μ-loop
-sub-loop c = ?
-
--- src/lib.rt:95:13
-line-end-requires : tie.Need-line-end-requires Inv-loop μ-loop
-line-end-requires c κs = ?
-
--- src/lib.rt:97:13
-same-length : tie.Need-same-length Inv-loop μ-loop
-same-length c = ?
-
--- src/lib.rt:97:13
-same-length-2 : tie.Need-same-length-2 Inv-loop μ-loop
-same-length-2 c = ?
-
--- src/lib.rt:97:13
 returns-2 : tie.Need-returns-2 Inv-loop μ-loop
-returns-2 c = ?
+returns-2 c =
+    let l = c .before .before .before in
+    let e = l .before .before in
+    let s = e .before .before .before .before .args in
+    lines-open _ _ _ _ _ _ _ _ _ _ (l .loop .inv) (going-on (now (s .b)) (s .from) (e .if1 .left)) (omega arith) (c .before .line-end .ensures .0) (c .if2 .taken)
 
--- src/lib.rt:103:44
-sub-line-step : tie.Need-sub-line-step Inv-loop μ-loop
-sub-line-step c = ?
-
--- src/lib.rt:103:44
-part-line-step-start : tie.Need-part-line-step-start Inv-loop μ-loop
-part-line-step-start c = ?
-
--- src/lib.rt:103:44
 part-line-step-end : tie.Need-part-line-step-end Inv-loop μ-loop
-part-line-step-end c = ?
+part-line-step-end c = omega (arith, c .before .before .line-end .ensures .1)
 
--- src/lib.rt:103:13
-line-step-requires : tie.Need-line-step-requires Inv-loop μ-loop
-line-step-requires c κs = ?
-
--- src/lib.rt:104:16
-add-used : tie.Need-add-used Inv-loop μ-loop
-add-used c = ?
-
--- src/lib.rt:106:13
-same-length-3 : tie.Need-same-length-3 Inv-loop μ-loop
-same-length-3 c = ?
-
--- src/lib.rt:106:13
-same-length-4 : tie.Need-same-length-4 Inv-loop μ-loop
-same-length-4 c = ?
-
--- src/lib.rt:106:13
 returns-3 : tie.Need-returns-3 Inv-loop μ-loop
-returns-3 c = ?
+returns-3 c =
+    let k = c .before .before .before in
+    let g = k .before .before .before .before in
+    let l = g .before .before .before in
+    let e = l .before .before in
+    let s = e .before .before .before .before .args in
+    let r = g .before .line-end in
+    lines-not _ _ _ _ _ _ _ _ _ _ (l .loop .inv) (going-on (now (s .b)) (s .from) (e .if1 .left)) (omega arith) (r .result) (r .ensures .0) (g .if2 .left) (r .ensures .1)
+    (k .line-step .result) _ (k .line-step .ensures .0) (c .if3 .taken)
 
--- src/lib.rt:113:9
 copy-requires : tie.Need-copy-requires Inv-loop μ-loop
-copy-requires c κs = ?
+copy-requires c κs =
+    let z = c .before .before .before in
+    let k = z .before .before .before in
+    let g = k .before .before .before .before in
+    let l = g .before .before .before in
+    let e = l .before .before in
+    let s = e .before .before .before .before .args in
+    let r = g .before .line-end in (
+      omega arith,
+      text-length _ _ _ _ _ _ _ _ _ _ (l .loop .inv) (going-on (now (s .b)) (s .from) (e .if1 .left)) (omega arith) (r .result) (r .ensures .0) (g .if2 .left) (r .ensures .1)
+          (k .line-step .result) _ (k .line-step .ensures .0) (z .if3 .left) _ (k .line-step .ensures .1),
+    )
 
--- src/lib.rt:114:9
 add-written : tie.Need-add-written Inv-loop μ-loop
-add-written c = ?
+add-written c =
+    let g = c .before .before .before .before .before .before .before .before .before .before .before .before .before in
+    let i = g .before .before in
+    let l = i .before in
+    let s = l .before .before .before .before .before .before in
+    record { fits = omega (arith, l .loop .inv .length-out, l .loop .inv .fits, i .loop-test .taken, s .good .1 .1 .1 .1 .0) }
 
--- src/lib.rt:94:5
-loop-less : tie.Need-loop-less Inv-loop μ-loop
-loop-less c = ?
-
--- src/lib.rt:94:5
 loop-again : tie.Need-loop-again Inv-loop μ-loop
-loop-again c = ?
+loop-again c =
+    let y = c .before .before in
+    let z = y .before .before .before .before in
+    let k = z .before .before .before in
+    let g = k .before .before .before .before in
+    let l = g .before .before .before in
+    let e = l .before .before in
+    let s = e .before .before .before .before .args in
+    let r = g .before .line-end in
+    turn _ _ _ _ _ _ _ _ _ _ (l .loop .inv) (going-on (now (s .b)) (s .from) (e .if1 .left)) (omega arith) (r .result) (r .ensures .0) (g .if2 .left) (r .ensures .1)
+    (k .line-step .result) _ (k .line-step .ensures .0) (z .if3 .left) _ (k .line-step .ensures .1) (search needs) (y .copy .ensures)
 
--- src/lib.rt:80:1
-same-length-5 : tie.Need-same-length-5 Inv-loop μ-loop
-same-length-5 c = ?
-
--- src/lib.rt:80:1
-same-length-6 : tie.Need-same-length-6 Inv-loop μ-loop
-same-length-6 c = ?
-
--- src/lib.rt:80:1
 returns-4 : tie.Need-returns-4 Inv-loop μ-loop
-returns-4 c = ?
+returns-4 c =
+    let l = c .before in
+    let e = l .before .before in
+    let s = e .before .before .before .before .args in
+    lines-full _ _ _ _ _ _ _ _ _ _ (l .loop .inv) (going-on (now (s .b)) (s .from) (e .if1 .left)) (omega arith)
 
 pub lines-spec : {M : Type 1} → statement M
 lines-spec =
@@ -108,23 +94,23 @@ lines-spec =
     μ-loop
     returns
     loop-holds
-    sub-loop
-    line-end-requires
-    same-length
-    same-length-2
+    (λ c. search needs)
+    (λ c κs. search needs)
+    (λ c. search needs)
+    (λ c. search needs)
     returns-2
-    sub-line-step
-    part-line-step-start
+    (λ c. search needs)
+    (λ c. search needs)
     part-line-step-end
-    line-step-requires
-    add-used
-    same-length-3
-    same-length-4
+    (λ c κs. search needs)
+    (λ c. search needs)
+    (λ c. search needs)
+    (λ c. search needs)
     returns-3
     copy-requires
     add-written
-    loop-less
+    (λ c. search needs)
     loop-again
-    same-length-5
-    same-length-6
+    (λ c. search needs)
+    (λ c. search needs)
     returns-4)
