@@ -12,6 +12,9 @@ use Rattle.line.specs.Line as Line
 use Rattle.plc.specs.Kinds.{payload-length}
 use Rattle.decoder.specs.Call as Frame
 use Rattle.print.specs.Print.{pcm, total, refused}
+use Rattle.state.specs.State.{write, fresh}
+use Rattle.tables.specs.Layout.{table-check}
+use Rattle.words.specs.Words.{words}
 
 -- what is kept between lines: the state block, the counts, and 0 while the call goes on, else the number of the refusal that ended it
 pub record Job : Type 0 where
@@ -54,19 +57,33 @@ line-step t job l = taken t job (Line.line l (replicate 10 0))
 unfoldable pub line-number : Counts → ℕ
 line-number c = min (c .frames) 360000 + 1
 
--- the last form, where the text ends with these bytes behind its last line feed: a missing line feed is code 9
-unfoldable pub last-form : Job → List ℕ → List ℕ
-last-form job held =
-    let n : ℕ = line-number (job .counts) in
-    cond (eqb (job .code) 0)
-    (cond (eqb (length held) 0) (total (job .counts .frames) (job .counts .lost)) (refused 9 n))
-    (refused (job .code) n)
+-- the last form, where the text ends with these bytes behind its last line feed, or was refused: a missing line feed is code 9
+unfoldable pub last-form : Counts → ℕ → List ℕ → List ℕ
+last-form c code held =
+    cond (eqb code 0)
+    (cond (eqb (length held) 0) (total (c .frames) (c .lost)) (refused 9 (line-number c)))
+    (refused code (line-number c))
 
 -- all that is printed from here on, where `held` are the bytes of the line so far; behind a refusal nothing is read
 unfoldable pub printed : List ℤ → Job → List ℕ → List ℕ → List ℕ
-printed t job held [] = last-form job held
+printed t job held [] = last-form (job .counts) (job .code) held
 printed t job held (b ∷ text) =
     let s : Step = line-step t job held in
     cond (eqb (job .code) 0)
     (cond (eqb b 10) (s .text ++ printed t (s .job) [] text) (printed t job (held ++ (b ∷ [])) text))
-    (last-form job held)
+    (last-form (job .counts) (job .code) held)
+
+-- ---- the program
+
+-- a call begins in the fresh state, nothing counted
+unfoldable pub fresh-job : List ℤ → Job
+fresh-job t = record { block = write (fresh t); counts = record { frames = 0; lost = 0 }; code = 0 }
+
+-- 1: not 3,760 bytes (no file has none). 2: the table check
+unfoldable pub file-check : List ℕ → ℕ
+file-check file = cond (eqb (length file) 3760) (table-check (words file)) 1
+
+-- all that the program prints, from the bytes of the table file and the call's text; the tables are checked before any line is read
+unfoldable pub output : List ℕ → List ℕ → List ℕ
+output file text =
+    cond (eqb (file-check file) 0) (printed (words file) (fresh-job (words file)) [] text) (refused (file-check file) 0)

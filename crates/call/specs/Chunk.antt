@@ -4,9 +4,11 @@ use mathlib.Core.List.{List, [], _∷_, _++_}
 use Prim.Native.Nat.{ℕ, zero, suc, _-_}
 use lib.Dec.{eqb, leb, ltb}
 use lib.IntN.{ℤ}
-use lib.ListN.{length, drop}
+use lib.ListN.{length}
 use Rattle.count.specs.declared.Counted.{Counted}
-use Rattle.call.specs.declared.Taken.{Taken}
+use Rattle.print.specs.Print.{over}
+use Rattle.state.specs.State as State
+use Rattle.words.specs.Words.{words}
 use Rattle.call.specs.Call.{Job, Step, line-step}
 
 -- what the lines that were taken print, what is kept after them, and the bytes behind them
@@ -44,10 +46,6 @@ kept b c = record { block = b; counts = c .counts; code = c .code }
 unfoldable pub left : Step → List ℕ → List ℕ
 left s lent = cond (eqb (s .job .code) 0) (s .text) lent
 
--- bytes written over the front of lent ones
-unfoldable pub over : List ℕ → List ℕ → List ℕ
-over s lent = s ++ drop (length s) lent
-
 -- what `lines` answers and leaves: the state block, the counts with their code, the number of bytes used and written, and the lent output
 pub data Answer : Type 0 where
   answer : Job → ℕ → ℕ → List ℕ → Answer
@@ -64,5 +62,18 @@ to-feed [] = 0
 to-feed (b ∷ l) = cond (eqb b 10) 0 (suc (to-feed l))
 
 -- more than 36 bytes without a line feed are no line, whatever follows: code 9
-unfoldable pub overlong : List ℕ → Counted → Counted
-overlong l c = cond (eqb (c .code) 0 && ltb 36 (to-feed l)) (record { code = 9; counts = c .counts }) c
+unfoldable pub overlong : List ℕ → ℕ → ℕ
+overlong l code = cond (eqb code 0 && ltb 36 (to-feed l)) 9 code
+
+-- ---- the tables
+
+-- what `begin` answers and leaves: a number, the table block and the state block
+pub data Begun : Type 0 where
+  begun : ℕ → List ℤ → List ℤ → Begun
+
+unfoldable pub with-state : List ℤ → State.Answer → Begun
+with-state t (State.answer code b) = begun code t b
+
+-- 1: not 3,760 bytes, or not 1,880 words lent for them. 2: the table check, 3: not 234 words lent for the state; the words of the file are then there
+unfoldable pub begin : List ℕ → List ℤ → List ℤ → Begun
+begin file t b = cond (eqb (length file) 3760 && eqb (length t) 1880) (with-state (words file) (State.fresh-state (words file) b)) (begun 1 t b)

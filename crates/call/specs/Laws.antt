@@ -2,14 +2,14 @@
 use mathlib.Core.Path.{_≡_, refl, ap, sym, _∙_}
 use mathlib.Core.Bool.{Bool, true, false, cond, _&&_}
 use mathlib.Core.List.{List, [], _∷_, _++_, append-assoc, append-nil}
-use Prim.Native.Nat.{ℕ, zero, suc, _+_, _-_, _*_, _≤_, _<_}
+use Prim.Native.Nat.{ℕ, zero, suc, _+_, _-_, _*_, _/_, _≤_, _<_, min}
 use native.Mathlib.Omega.{arith}
 use native.Mathlib.Numerals.{add-one}
-use native.Mathlib.Nat.{sub-zero}
+use native.Mathlib.Nat.{sub-zero, zero-add, add-comm}
 use lib.Dec.{eqb, leb, ltb}
 use lib.IntN.{ℤ, pos}
 use lib.ListN.{length, getD, take, drop, set, replicate, drop-of-length-le, length-append, length-take, length-drop, take-append-drop}
-use lib.Seq.{drop-cons, drop-length, take-length, take-all, drop-drop, append-snoc, take-at, drop-at, paste, paste-suc, length-paste, drop-paste, take-paste}
+use lib.Seq.{drop-cons, drop-length, take-length, take-all, drop-drop, append-snoc, getD-drop, getD-take, paste, slice, length-paste, drop-paste, take-paste}
 use borrow.Author.Tests.{lt-ltb, le-ltb, le-leb, lt-leb, eq-eqb, ne-eqb, eqb-true, eqb-false, leb-true, leb-false}
 use Rattle.count.specs.declared.Counts.{Counts}
 use Rattle.count.specs.declared.Counted.{Counted}
@@ -17,9 +17,13 @@ use Rattle.count.specs.Count.{count}
 use Rattle.line.specs.Line as Line
 use Rattle.plc.specs.Kinds.{payload-length}
 use Rattle.decoder.specs.Call as Frame
-use Rattle.print.specs.Print.{word, words, pcm}
-use Rattle.call.specs.Call.{Job, Step, stop, framed, counted, taken, line-step, last-form, printed}
-use Rattle.call.specs.Chunk.{Part, none, behind, goes-on, part, kept, left, over, Answer, answer, given, lines, to-feed}
+use Rattle.print.specs.Print.{word, words, pcm, total, refused, over}
+use Rattle.print.specs.Laws.{paste-more}
+use Rattle.state.specs.State as State
+use Rattle.words.specs.Words as Words
+use Rattle.words.specs.Laws as WordsLaws
+use Rattle.call.specs.Call.{Job, Step, stop, framed, counted, taken, line-step, line-number, last-form, printed}
+use Rattle.call.specs.Chunk.{Part, none, behind, goes-on, part, kept, left, Answer, answer, given, lines, to-feed, overlong, Begun, begun, with-state, begin}
 
 -- ---- one line
 
@@ -156,7 +160,7 @@ module _ (t : List ℤ) (job : Job) (room : ℕ) where
       by true h f = absurd (omega arith)
       by false h f = f (omega arith) ∙ rw (append-snoc held b l)
 
--- ---- the scan for a line feed, and a copy
+-- ---- the scan for a line feed
 
 module _ (l : List ℕ) (i : ℕ) (h : i < length l) where
   pub feed-here : getD l i 0 ≡ 10 → to-feed (drop i l) ≡ 0
@@ -170,12 +174,6 @@ module _ (l : List ℕ) (i : ℕ) (h : i < length l) where
 pub feed-end : (l : List ℕ) (i : ℕ) → length l ≤ i → to-feed (drop i l) ≡ 0
 unfolding to-feed
 feed-end l i h = rw (drop-of-length-le l {i = i} h)
-
-pub paste-more : (d s out : List ℕ) (at j : ℕ) → at + j < length d → j < length s → out ≡ paste d at s j → set out (at + j) (getD s j 0) ≡ paste d at s (j + 1)
-paste-more d s out at j h k e = rw e (paste-suc d at s j 0 h k ∙ rw add-one)
-
-pub paste-end : (d s out : List ℕ) (at j n : ℕ) → out ≡ paste d at s j → j ≡ n → out ≡ paste d at s n
-paste-end d s out at j n e h = rw h at e
 
 -- ---- the loop over the lines of a part
 
@@ -296,3 +294,91 @@ module _ (t b₀ : List ℤ) (counts₀ : Counts) (input out₀ : List ℕ) (b :
                 rest = y ∙ sym (drop-drop 327 written out) ∙ rw (f .rest) (drop-drop 327 written out₀);
                 parts = after ∙ taken-more t _ text _ _ _ lw (sym text-is) (sym x) (sym hr ∙ sym (going-on b′ r z)) (omega arith);
               }
+
+-- ---- the other functions, by the tests of their code
+
+pub overlong-ended : (l : List ℕ) (code : ℕ) → (code ≡ 0 → ⊥) → code ≡ overlong l code
+unfolding overlong
+overlong-ended l code h = rw (ne-eqb code 0 h)
+
+module _ (l : List ℕ) (code n : ℕ) (h : code ≡ 0) (e : n ≡ 0 + to-feed l) where
+  pub overlong-yes : 36 < n → 9 ≡ overlong l code
+  unfolding overlong
+  overlong-yes k = rw (eq-eqb code 0 h, lt-ltb 36 (to-feed l) (omega arith))
+
+  pub overlong-no : n ≤ 36 → 0 ≡ overlong l code
+  unfolding overlong
+  overlong-no k = rw (h, le-ltb 36 (to-feed l) (omega arith))
+
+pub number-below : (c : Counts) → c .frames < 360000 → c .frames + 1 ≡ line-number c
+unfolding line-number
+number-below c h = omega arith
+
+pub number-last : (c : Counts) → 360000 ≤ c .frames → 360001 ≡ line-number c
+unfolding line-number
+number-last c h = omega arith
+
+-- what a last form is when written over lent bytes
+abbrev pub Form : ℕ → List ℕ → List ℕ → List ℕ → Type 0
+Form r out out₀ s = (r ≤ 46) × ((r ≡ length s) × (out ≡ over s out₀))
+
+module _ (c : Counts) (code : ℕ) (held : List ℕ) {r : ℕ} {out : List ℕ} (out₀ : List ℕ) where
+  pub form-refused : {n : ℕ} → (code ≡ 0 → ⊥) → n ≡ line-number c → Form r out out₀ (refused code n) → Form r out out₀ (last-form c code held)
+  unfolding last-form
+  form-refused h e f = rw (ne-eqb code 0 h, ← e) f
+
+  pub form-open : {n : ℕ} → code ≡ 0 → (length held ≡ 0 → ⊥) → n ≡ line-number c → Form r out out₀ (refused 9 n) → Form r out out₀ (last-form c code held)
+  unfolding last-form
+  form-open h k e f = rw (eq-eqb code 0 h, ne-eqb (length held) 0 k, ← e) f
+
+  pub form-total : code ≡ 0 → length held ≡ 0 → Form r out out₀ (total (c .frames) (c .lost)) → Form r out out₀ (last-form c code held)
+  unfolding last-form
+  form-total h k f = rw (eq-eqb code 0 h, eq-eqb (length held) 0 k) f
+
+-- ---- bytes moved to the front
+
+module _ (l : List ℕ) (from to : ℕ) where
+  pub slice-none : min to (length l) ≤ from → slice from to l ≡ []
+  slice-none h = drop-of-length-le (take to l) {i = from} (rw length-take h)
+
+  pub slice-length : {end : ℕ} → end ≡ min to (length l) → end - from ≡ length (slice from to l)
+  slice-length e = rw (length-drop from (take to l), length-take to l, e)
+
+  pub slice-move : (now : List ℕ) (i : ℕ) → length now ≡ length l → i < length (slice from to l) → now ≡ paste l 0 (slice from to l) i
+      → set now i (getD now (from + i) 0) ≡ paste l 0 (slice from to l) (i + 1)
+  slice-move now i h k e =
+      let n : length (slice from to l) ≡ min to (length l) - from = rw (length-drop from (take to l), length-take to l) in
+      let d : drop (0 + i) now ≡ drop (0 + i) l = rw e (drop-paste l 0 (slice from to l) i (omega arith) (omega arith)) in
+      let g : getD now (from + i) 0 ≡ getD l (from + i) 0 = rw (add-comm from i, ← getD-drop i now from 0, ← getD-drop i l from 0, rw (zero-add i) at d) in
+      let v : getD (slice from to l) i 0 ≡ getD l (from + i) 0 = getD-drop from (take to l) i 0 ∙ getD-take to l (from + i) 0 (omega arith) in
+      rw (g, ← v) (rw (zero-add i) at (paste-more l (slice from to l) now 0 i (omega arith) k e))
+
+  pub slice-none-over : min to (length l) ≤ from → (0 ≤ length l) × ((0 ≡ length (slice from to l)) × (l ≡ over (slice from to l) l))
+  unfolding over
+  slice-none-over h = rw (slice-none h) (omega arith, (refl, refl))
+
+  pub slice-over : (now : List ℕ) (i n : ℕ) → n ≡ length (slice from to l) → i ≡ n → now ≡ paste l 0 (slice from to l) i → now ≡ over (slice from to l) l
+  unfolding over
+  slice-over now i n h k e = e ∙ rw (k, h, take-length (slice from to l), zero-add (length (slice from to l)))
+
+-- ---- the tables
+
+module _ (file : List ℕ) (t b : List ℤ) where
+  pub begin-short : (length file ≡ 3760 → ⊥) → begun 1 t b ≡ begin file t b
+  unfolding begin
+  begin-short h = rw (ne-eqb (length file) 3760 h)
+
+  pub begin-room : length file ≡ 3760 → (length t ≡ 1880 → ⊥) → begun 1 t b ≡ begin file t b
+  unfolding begin
+  begin-room e h = rw (eq-eqb (length file) 3760 e, ne-eqb (length t) 1880 h)
+
+  module _ (e : length file ≡ 3760) (g : length t ≡ 1880) {t′ : List ℤ} (h : t′ ≡ Words.from-bytes file t) where
+    tables-are : t′ ≡ Words.words file
+    unfolding Words.from-bytes
+    tables-are =
+        let n : min (length file / 2) (length t) ≡ 1880 = omega arith in
+        h ∙ rw (n, take-all 1880 (Words.words file) (rw WordsLaws.length-words (omega arith)), drop-of-length-le t {i = 1880} (omega arith)) (append-nil (Words.words file))
+
+    pub begin-done : {code : ℕ} {b′ : List ℤ} → State.answer code b′ ≡ State.fresh-state t′ b → begun code t′ b′ ≡ begin file t b
+    unfolding begin with-state
+    begin-done q = rw (eq-eqb (length file) 3760 e, eq-eqb (length t) 1880 g, ← tables-are, ← q)

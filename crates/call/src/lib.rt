@@ -1,11 +1,12 @@
 // A call as text (01, "The call text and the program"): lines to printed samples, a part of the text at a time, in lent memory.
 ghost use mathlib.Core.Path.{_≡_};
 ghost use mathlib.Core.List.{_++_};
-ghost use Prim.Native.Nat.{_+_, _≤_};
+ghost use Prim.Native.Nat.{_+_, _≤_, min};
 ghost use lib.ListN.{length, drop};
-ghost use lib.Seq.{paste};
-ghost use Rattle.call.specs.Call.{line-step};
-ghost use Rattle.call.specs.Chunk.{kept, left, Answer, lines, to-feed};
+ghost use lib.Seq.{paste, slice};
+ghost use Rattle.call.specs.Call.{line-step, line-number, last-form};
+ghost use Rattle.call.specs.Chunk.{kept, left, Answer, lines, to-feed, overlong, Begun, begin};
+ghost use Rattle.print.specs.Print.{over};
 use count::Counted;
 use count::Counts;
 
@@ -15,6 +16,13 @@ pub struct Taken {
     pub job: Counted,
     pub used: usize,
     pub written: usize,
+}
+
+// The lesser of two lengths.
+fn lesser(a: usize, b: usize) -> usize
+    ensures { λ r. ⌜ r ≡ min a b ⌝ }
+{
+    if a < b { a } else { b }
 }
 
 // The place of the first line feed from `from` on, or the end.
@@ -85,6 +93,7 @@ pub fn line_step(
 // is at the front of `out`; the bytes behind it are as they were.
 pub fn lines(t: &[i16], b: &mut [i16], from: Counted, input: &[u8], out: &mut [u8]) -> Taken
     ensures { λ r. ⌜ Answer.answer (kept (now (b .exit)) (r .job)) (r .used) (r .written) (now (out .exit)) ≡ lines (now (t .entry)) (kept (now (b .entry)) from) (now (input .entry)) (now (out .entry)) ⌝ }
+    ensures { λ r. ⌜ (r .used ≤ length (now (input .entry))) × (r .written ≤ length (now (out .entry))) ⌝ }
 {
     if from.code != 0 {
         return Taken {
@@ -124,4 +133,74 @@ pub fn lines(t: &[i16], b: &mut [i16], from: Counted, input: &[u8], out: &mut [u
         used,
         written,
     }
+}
+
+// More than 36 bytes held without a line feed are no line, whatever follows: 9, unless the call has ended.
+pub fn overlong(code: u32, held: &[u8]) -> u32
+    ensures { λ r. ⌜ r ≡ overlong (now (held .entry)) code ⌝ }
+{
+    if code != 0 {
+        return code;
+    }
+    let n = line_end(held, 0);
+    if n > 36 {
+        return 9;
+    }
+    0
+}
+
+// The number of the line that comes next or was refused, from 1.
+fn line_number(c: Counts) -> u32
+    ensures { λ r. ⌜ r ≡ line-number c ⌝ }
+{
+    if c.frames < 360000 {
+        c.frames + 1
+    } else {
+        360001
+    }
+}
+
+// The last form of a call, where `held` are the bytes behind its last line feed: its total, or its refusal. Answers its length; the bytes behind it are as they were.
+pub fn finish(job: Counted, held: &[u8], out: &mut [u8; 46]) -> usize
+    ensures { λ r. ⌜ (r ≤ 46) × ((r ≡ length (last-form (job .counts) (job .code) (now (held .entry)))) × (now (out .exit) ≡ over (last-form (job .counts) (job .code) (now (held .entry))) (now (out .entry)))) ⌝ }
+{
+    let counts = job.counts;
+    if job.code != 0 {
+        return print::refused(job.code, line_number(counts), out);
+    }
+    if held.len() != 0 {
+        return print::refused(9, line_number(counts), out);
+    }
+    print::total(counts.frames, counts.lost, out)
+}
+
+// Moves the bytes from `from` up to `to` to the front of a buffer, and answers how many they are.
+pub fn keep(input: &mut [u8], from: usize, to: usize) -> usize
+    ensures { λ r. ⌜ (r ≤ length (now (input .entry))) × ((r ≡ length (slice from to (now (input .entry)))) × (now (input .exit) ≡ over (slice from to (now (input .entry))) (now (input .entry)))) ⌝ }
+{
+    let end = lesser(to, input.len());
+    if end <= from {
+        return 0;
+    }
+    let n = end - from;
+    let mut i = 0;
+    while i < n {
+        input[i] = input[from + i];
+        i += 1;
+    }
+    n
+}
+
+// Begins a call from the bytes of the table file: the tables and the fresh state.
+pub fn begin(file: &[u8], t: &mut [i16], b: &mut [i16]) -> u32
+    ensures { λ r. ⌜ Begun.begun r (now (t .exit)) (now (b .exit)) ≡ begin (now (file .entry)) (now (t .entry)) (now (b .entry)) ⌝ }
+{
+    if file.len() != 3760 {
+        return 1;
+    }
+    if t.len() != 1880 {
+        return 1;
+    }
+    words::from_bytes(file, t);
+    state::fresh_state(t, b)
 }

@@ -17,8 +17,10 @@ abbrev μ-loop : tie.MeasureT-loop
 
 returns : tie.Need-returns Inv-loop μ-loop
 returns c =
-    let s = c .before .before .before .before .args in
-    lines-refused (now (s .t)) (now (s .b)) (s .from) (now (s .input)) (now (s .out)) (c .if1 .taken)
+    let s = c .before .before .before .before .args in (
+      lines-refused (now (s .t)) (now (s .b)) (s .from) (now (s .input)) (now (s .out)) (c .if1 .taken),
+      (omega arith, omega arith),
+    )
 
 loop-holds : tie.Need-loop-holds Inv-loop μ-loop
 loop-holds c = so-far-none _ _ _ _ _
@@ -27,8 +29,10 @@ returns-2 : tie.Need-returns-2 Inv-loop μ-loop
 returns-2 c =
     let l = c .before .before .before in
     let e = l .before .before in
-    let s = e .before .before .before .before .args in
-    lines-open _ _ _ _ _ _ _ _ _ _ (l .loop .inv) (going-on (now (s .b)) (s .from) (e .if1 .left)) (omega arith) (c .before .line-end .ensures .0) (c .if2 .taken)
+    let s = e .before .before .before .before .args in (
+      lines-open _ _ _ _ _ _ _ _ _ _ (l .loop .inv) (going-on (now (s .b)) (s .from) (e .if1 .left)) (omega arith) (c .before .line-end .ensures .0) (c .if2 .taken),
+      (l .loop .inv .inside, l .loop .inv .fits),
+    )
 
 part-line-step-end : tie.Need-part-line-step-end Inv-loop μ-loop
 part-line-step-end c = omega (arith, c .before .before .line-end .ensures .1)
@@ -40,9 +44,11 @@ returns-3 c =
     let l = g .before .before .before in
     let e = l .before .before in
     let s = e .before .before .before .before .args in
-    let r = g .before .line-end in
-    lines-not _ _ _ _ _ _ _ _ _ _ (l .loop .inv) (going-on (now (s .b)) (s .from) (e .if1 .left)) (omega arith) (r .result) (r .ensures .0) (g .if2 .left) (r .ensures .1)
-    (k .line-step .result) _ (k .line-step .ensures .0) (c .if3 .taken)
+    let r = g .before .line-end in (
+      lines-not _ _ _ _ _ _ _ _ _ _ (l .loop .inv) (going-on (now (s .b)) (s .from) (e .if1 .left)) (omega arith) (r .result) (r .ensures .0) (g .if2 .left) (r .ensures .1)
+          (k .line-step .result) _ (k .line-step .ensures .0) (c .if3 .taken),
+      (search needs, l .loop .inv .fits),
+    )
 
 copy-requires : tie.Need-copy-requires Inv-loop μ-loop
 copy-requires c κs =
@@ -83,8 +89,10 @@ returns-4 : tie.Need-returns-4 Inv-loop μ-loop
 returns-4 c =
     let l = c .before in
     let e = l .before .before in
-    let s = e .before .before .before .before .args in
-    lines-full _ _ _ _ _ _ _ _ _ _ (l .loop .inv) (going-on (now (s .b)) (s .from) (e .if1 .left)) (omega arith)
+    let s = e .before .before .before .before .args in (
+      lines-full _ _ _ _ _ _ _ _ _ _ (l .loop .inv) (going-on (now (s .b)) (s .from) (e .if1 .left)) (omega arith),
+      (l .loop .inv .inside, l .loop .inv .fits),
+    )
 
 pub lines-spec : {M : Type 1} → statement M
 lines-spec =
