@@ -38,12 +38,18 @@ fn feed(text: &[u8], at: usize, size: usize, input: &mut [u8], to: usize) -> usi
 }
 
 // Reads on behind the bytes that are kept.
-fn read(job: Counted, p: Place, from: usize, text: &[u8], size: usize, input: &mut [u8]) -> Place
-    requires { ⌜ p .at ≤ length (now text) ⌝ }
-    ensures { λ r. ⌜ (r .from ≤ r .to) × ((r .to ≤ length (now (input .entry))) × (r .at ≤ length (now (text .entry)))) ⌝ }
+fn read(
+    job: Counted,
+    from: usize,
+    to: usize,
+    text: &[u8],
+    place: usize,
+    size: usize,
+    input: &mut [u8],
+) -> Place
+    ensures { λ r. ⌜ (r .from ≤ r .to) × (r .to ≤ length (now (input .entry))) ⌝ }
 {
-    let at = p.at;
-    let to = p.to;
+    let at = lesser(place, text.len());
     let kept = call::keep(input, from, to);
     let got = feed(text, at, size, input, kept);
     Place {
@@ -65,11 +71,12 @@ fn turn(
     input: &mut [u8],
     out: &mut [u8],
 ) -> Place
-    requires { ⌜ (p .from ≤ p .to) × ((p .to ≤ length (now input)) × (p .at ≤ length (now text))) ⌝ }
-    ensures { λ r. ⌜ (r .from ≤ r .to) × ((r .to ≤ length (now (input .entry))) × (r .at ≤ length (now (text .entry)))) ⌝ }
+    requires { ⌜ (p .from ≤ p .to) × (p .to ≤ length (now input)) ⌝ }
+    ensures { λ r. ⌜ (r .from ≤ r .to) × (r .to ≤ length (now (input .entry))) ⌝ }
 {
     let from = p.from;
     let to = p.to;
+    let at = p.at;
     let job = p.job;
     let taken = call::lines(t, b, job, &input[from..to], out);
     let next = taken.job;
@@ -80,13 +87,13 @@ fn turn(
     let counts = next.counts;
     let more = code == 0;
     if more && written == 0 {
-        return read(next, p, end, text, size, input);
+        return read(next, end, to, text, at, size, input);
     }
     Place {
         job: Counted { code, counts },
         from: end,
         to,
-        at: p.at,
+        at,
         more,
     }
 }
