@@ -72,7 +72,7 @@ uint32_t holdamek_fields(const uint8_t *bytes, size_t bytes_length, uint16_t *fi
 
 /* Reads one line of a call without its line feed, `(frame (voice H))` with 20 digits 0-9 a-f, `(frame (sid H))` with 4,
  * `(frame (quiet))` or `(frame (lost))`: writes its kind, and its payload to the front of ten bytes, of which the others stay as
- * they were. Refusals 11, 9. */
+ * they were. A text of any length is taken; bytes of a text that has not the length of one of the forms are not read. Refusals 11, 9. */
 uint32_t holdamek_line(const uint8_t *text, size_t text_length, uint32_t *kind, uint8_t *payload, size_t payload_length);
 
 /* Counts a frame: adds 1 to `frames`, and for kinds 1 to 3 to `lost`. Refusals 5, 10. */
