@@ -1,0 +1,3 @@
+-- The definitions that the contracts of `words` cite, and their laws.
+pub mod Words
+pub mod Laws
