@@ -4,14 +4,14 @@ use mathlib.Core.List.{List, [], _∷_, _++_, append-assoc, append-nil}
 use Prim.Native.Nat.{ℕ, zero, suc, _+_, _-_, _*_, _/_, _%_, _^_, _≤_, _<_, min}
 use native.Mathlib.Omega.{arith}
 use native.Mathlib.Numerals.{add-one}
-use native.Mathlib.Nat.{pow-succ', mul-lt-mul-of-pos-right, le-trans, lt-of-lt-of-le}
+use native.Mathlib.Nat.{pow-succ', lt-of-lt-of-le}
 use lib.IntN.{ℤ, pos, negsuc}
 use lib.Signed.{mag}
-use lib.ListN.{length, take, drop, getD, set, length-set, length-append, length-take, drop-of-length-le}
+use lib.ListN.{length, take, drop, getD, set, length-append, length-take, drop-of-length-le}
 use lib.Seq.{take-suc, drop-cons, append-snoc, set-at, take-all, take-suc-set, getD-take}
 use lib.Pow.{pow-add, pow-mono}
 use mir.Syntax.{w16}
-use mir.Val.{toZ, ofZ, SFits}
+use mir.Val.{ofZ}
 use mir.Facts.{toZ-ofZ}
 use Rattle.basic_op.specs.Ops.{low16, extract-l}
 use Rattle.basic_op.specs.Low.{low-lt}

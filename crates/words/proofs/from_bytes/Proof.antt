@@ -1,5 +1,5 @@
 -- `words::from_bytes` meets its contract: before turn i the first i words are done.
-use Prim.Native.Nat.{_*_, _/_, _-_, _≤_, min}
+use Prim.Native.Nat.{_/_, _-_, _≤_, min}
 use mathlib.Core.Path.{_≡_, refl, _∙_}
 use native.Mathlib.Omega.{arith}
 use borrow.Author.Needs.{needs}

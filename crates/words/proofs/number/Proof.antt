@@ -1,6 +1,6 @@
 -- `words::number` meets its contract: the loop goes from the last byte to the first, so that what is done is the number of the bytes from i on.
 use Prim.Native.Nat.{_*_, _-_, _^_, _≤_, _<_, min}
-use mathlib.Core.Path.{_≡_, refl, sym, _∙_}
+use mathlib.Core.Path.{_≡_}
 use native.Mathlib.Omega.{arith}
 use borrow.Author.Needs.{needs}
 use lib.ListN.{length, take, drop}

@@ -1,5 +1,5 @@
 -- `words::to_bytes` meets its contract: before turn i the bytes of i words are written.
-use Prim.Native.Nat.{_*_, _/_, _-_, _≤_, min}
+use Prim.Native.Nat.{_/_, _-_, _≤_, min}
 use mathlib.Core.Path.{_≡_, refl, _∙_}
 use native.Mathlib.Omega.{arith}
 use borrow.Author.Needs.{needs}

@@ -1,7 +1,6 @@
 -- `words::word` meets its contract: the sum of the two bytes is read as it stands.
-use mathlib.Core.Path.{_∙_, ap, sym}
+use mathlib.Core.Path.{_∙_, ap}
 use borrow.Author.Needs.{needs}
-use lib.IntN.{ℤ, pos}
 use mir.Syntax.{w16, w32}
 use mir.ValLaws.{toZ-pos}
 use native.Mathlib.Omega.{arith}
