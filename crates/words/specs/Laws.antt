@@ -87,14 +87,14 @@ to-end l out z i e h = e ∙ rw h
 
 -- ---- a number
 
--- before a turn at byte i: the number of the bytes from there on fits what is left of 64 bits
-pub room : (i n b : ℕ) → 0 < i → i ≤ 8 → n < 2 ^ (64 - 8 * i) → b < 256 → 256 * n + b < 2 ^ (64 - 8 * (i - 1))
-room i n b h k e f =
-    let p : 2 ^ (64 - 8 * (i - 1)) ≡ 2 ^ 8 * 2 ^ (64 - 8 * i) = ap (λ (m : ℕ). 2 ^ m) (omega arith) ∙ pow-add 2 8 (64 - 8 * i) in
+-- with m bytes, before the turn for byte i - 1: the number of the bytes from i on, and that byte, fit their bits
+pub room : (m i n b : ℕ) → 0 < i → i ≤ m → n < 2 ^ (8 * (m - i)) → b < 256 → 256 * n + b < 2 ^ (8 * (m - (i - 1)))
+room m i n b h k e f =
+    let p : 2 ^ (8 * (m - (i - 1))) ≡ 2 ^ 8 * 2 ^ (8 * (m - i)) = ap (λ (j : ℕ). 2 ^ j) (omega arith) ∙ pow-add 2 8 (8 * (m - i)) in
     omega arith
 
-pub fits : (i n : ℕ) → n < 2 ^ (64 - 8 * i) → n < 2 ^ 64
-fits i n e = let h : 64 - 8 * i ≤ 64 = omega arith in lt-of-lt-of-le e (pow-mono h)
+pub fits : (m i n : ℕ) → m ≤ 8 → n < 2 ^ (8 * (m - i)) → n < 2 ^ 64
+fits m i n k e = let h : 8 * (m - i) ≤ 64 = omega arith in lt-of-lt-of-le e (pow-mono h)
 
 number-more : (l : List ℕ) (i n : ℕ) → i < length l → n ≡ number (drop (suc i) l) → 256 * n + getD l i 0 ≡ number (drop i l)
 unfolding number
@@ -108,8 +108,11 @@ number-turn l i n h k e =
     let f : n ≡ number (drop (suc (i - 1)) (take 8 l)) = rw j at e in
     rw (← getD-take 8 l (i - 1) 0 b) (number-more (take 8 l) (i - 1) n (rw length-take (omega arith)) f)
 
-pub number-end : (l : List ℕ) (i n : ℕ) → i ≡ 0 → n ≡ number (drop i (take 8 l)) → n ≡ number (take 8 l)
-number-end l i n h e = rw h at e
+pub number-end : (l : List ℕ) (i n : ℕ) → i ≡ 0 → n < 2 ^ (8 * (min 8 (length l) - i)) → n ≡ number (drop i (take 8 l))
+    → (n ≡ number (take 8 l)) × (n < 2 ^ (8 * min 8 (length l)))
+number-end l i n h k e =
+    let z : min 8 (length l) - i ≡ min 8 (length l) = omega arith in
+    (rw h at e, rw z at k)
 
 pub number-none : (l : List ℕ) (i : ℕ) → i ≡ min 8 (length l) → 0 ≡ number (drop i (take 8 l))
 unfolding number

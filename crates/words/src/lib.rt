@@ -1,7 +1,7 @@
 // Numbers in a file, low byte first: words in two's complement (01, "The call text and the program": the bytes of the tables), and unsigned
 // numbers of up to eight bytes.
 ghost use mathlib.Core.Path.{_≡_};
-ghost use Prim.Native.Nat.{_≤_, min};
+ghost use Prim.Native.Nat.{_*_, _^_, _<_, _≤_, min};
 ghost use lib.ListN.{length, take};
 ghost use Rattle.words.specs.Words.{word, from-bytes, to-bytes, number, number-bytes};
 
@@ -48,7 +48,7 @@ pub fn to_bytes(words: &[i16], out: &mut [u8])
 
 // The number of the first eight bytes, or of all where there are fewer.
 pub fn number(bytes: &[u8]) -> u64
-    ensures { λ r. ⌜ r ≡ number (take 8 (now (bytes .entry))) ⌝ }
+    ensures { λ r. ⌜ (r ≡ number (take 8 (now (bytes .entry)))) × (r < 2 ^ (8 * min 8 (length (now (bytes .entry))))) ⌝ }
 {
     let mut i = lesser(8, bytes.len());
     let mut n = 0u64;
