@@ -8,7 +8,7 @@ use native.Mathlib.Nat.{pow-succ', lt-of-lt-of-le}
 use lib.IntN.{ℤ, pos, negsuc}
 use lib.Signed.{mag}
 use lib.ListN.{length, take, drop, getD, set, length-append, length-take, drop-of-length-le}
-use lib.Seq.{take-suc, drop-cons, append-snoc, set-at, take-all, take-suc-set, getD-take}
+use lib.Seq.{take-suc, drop-cons, append-snoc, set-at, take-all, take-at, take-suc-set, getD-take}
 use lib.Pow.{pow-add, pow-mono}
 use mir.Syntax.{w16}
 use mir.Val.{ofZ}
@@ -45,6 +45,13 @@ word-here l k z h e = e ∙ sym (at-words l k h)
 pub from-end : (l : List ℕ) (out z : List ℤ) (i : ℕ) → z ≡ filled (at (words l)) i out → i ≡ min (length l / 2) (length out) → z ≡ from-bytes l out
 unfolding from-bytes filled
 from-end l out z i e h = e ∙ rw (tab-at (words l) i (omega (arith, length-words l)), h)
+
+-- as many bytes as the lent words have
+pub from-whole : (l : List ℕ) (out : List ℤ) → length l ≡ 2 * length out → from-bytes l out ≡ words l
+unfolding from-bytes
+from-whole l out h =
+    let n : min (length l / 2) (length out) ≡ length out = omega arith in
+    rw (n, take-all (length out) (words l) (omega (arith, length-words l)), drop-of-length-le out {i = length out} (omega arith), append-nil)
 
 -- ---- words to bytes
 
@@ -84,6 +91,13 @@ put-more l out z i w h k e g =
 pub to-end : (l : List ℤ) (out z : List ℕ) (i : ℕ) → z ≡ put l i out → i ≡ min (length l) (length out / 2) → z ≡ to-bytes l out
 unfolding to-bytes put
 to-end l out z i e h = e ∙ rw h
+
+-- lent bytes with room for all the words
+pub to-front : (l : List ℤ) (out : List ℕ) → 2 * length l ≤ length out → take (2 * length l) (to-bytes l out) ≡ bytes l
+unfolding to-bytes
+to-front l out h =
+    let n : min (length l) (length out / 2) ≡ length l = omega arith in
+    rw (n, take-all (length l) l (omega arith)) (take-at (bytes l) _ (2 * length l) (length-bytes l))
 
 -- ---- a number
 

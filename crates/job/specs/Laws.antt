@@ -1,0 +1,133 @@
+-- Laws of the check sum and of the job file: the loops of `job`, what was written read back, and that no damaged byte goes unnoticed. Assumes nothing.
+use mathlib.Core.Path.{_≡_, refl, sym, ap, _∙_}
+use mathlib.Core.List.{List, [], _∷_, _++_, append-assoc}
+use Prim.Native.Nat.{ℕ, _+_, _-_, _*_, _^_, _≤_, _<_, min}
+use native.Mathlib.Omega.{arith}
+use native.Mathlib.Numerals.{add-one}
+use mathlib.Core.Bool.{Bool, true, false}
+use mathlib.Core.Logic.{_≢_}
+use borrow.Author.Tests.{eq-eqb, ne-eqb, eqb-true}
+use lib.Dec.{eqb}
+use lib.IntN.{ℤ}
+use lib.Bits.{bitXor}
+use lib.ListN.{length, take, drop, getD, length-append, length-take, length-drop}
+use lib.Seq.{take-suc, take-length, take-at, take-all}
+use Rattle.state.specs.State.{state-check}
+use Rattle.words.specs.Words.{bytes, from-bytes, to-bytes, number, number-bytes}
+use Rattle.words.specs.Laws.{from-whole, to-front, length-number-bytes}
+use Rattle.job.specs.declared.Saved.{Saved}
+use Rattle.job.specs.Job.{body, pack, block, place, sum-fits, counts-fit, check, answer, nowhere, read}
+use Rattle.job.specs.Crc32.{bit, bits, byte, run, crc32}
+
+-- ---- the loops of the check sum
+
+pub bits-none : (x : ℕ) → x ≡ bits 0 x
+unfolding bits
+bits-none x = refl
+
+pub bits-more : (i x₀ x y : ℕ) → x ≡ bits i x₀ → y ≡ bit x → y ≡ bits (i + 1) x₀
+unfolding bits
+bits-more i x₀ x y e g = rw (add-one, ← e) g
+
+pub bits-end : (i c b x : ℕ) → x ≡ bits i (bitXor c b) → i ≡ 8 → x ≡ byte c b
+unfolding byte
+bits-end i c b x e h = e ∙ rw h
+
+pub run-none : (c : ℕ) (l : List ℕ) → c ≡ run c (take 0 l)
+unfolding run
+run-none c l = refl
+
+run-last : (c : ℕ) (l : List ℕ) (b : ℕ) → run c (l ++ (b ∷ [])) ≡ byte (run c l) b
+unfolding run
+run-last c [] b = refl
+run-last c (x ∷ l) b = run-last (byte c x) l b
+
+pub run-more : (c : ℕ) (l : List ℕ) (i x y : ℕ) → i < length l → x ≡ run c (take i l) → y ≡ byte x (getD l i 0) → y ≡ run c (take (i + 1) l)
+run-more c l i x y h e g = rw (add-one, take-suc l i 0 h, run-last, ← e) g
+
+pub run-end : (l : List ℕ) (i x : ℕ) → i ≡ length l → x ≡ run 4294967295 (take i l) → bitXor x 4294967295 ≡ crc32 l
+unfolding crc32
+run-end l i x h e = rw (e, h, take-length)
+
+-- ---- the parts of a file
+
+-- what stands up to the end of a part that was put in
+pub front : (l v r : List ℕ) (a e : ℕ) → a ≤ e → e ≤ length l → length v ≡ e - a → take e (take a l ++ (v ++ r)) ≡ take a l ++ v
+front l v r a e h k g =
+    let n : length (take a l ++ v) ≡ e = simp (length-append, length-take) (omega arith) in
+    rw (← append-assoc (take a l) v r) (take-at (take a l ++ v) r e n)
+
+pub front-number : (l v m r : List ℕ) (a e n : ℕ) → a ≤ e → e ≤ length l → length m ≡ e - a → v ≡ number-bytes (length m) n
+    → take e (take a l ++ (v ++ r)) ≡ take a l ++ number-bytes (e - a) n
+front-number l v m r a e n h k g f =
+    let i : length v ≡ e - a = ap length f ∙ length-number-bytes (length m) n ∙ g in
+    front l v r a e h k i ∙ rw (f, g)
+
+-- a number of k bytes at place a
+pub part-number : (l : List ℕ) (a k n : ℕ) → a + k ≤ length l → k ≤ 8
+    → (n ≡ number (take 8 (take k (drop a l)))) × (n < 2 ^ (8 * min 8 (length (take k (drop a l))))) → (n ≡ number (take k (drop a l))) × (n < 2 ^ (8 * k))
+part-number l a k n h g p =
+    let i : length (take k (drop a l)) ≡ k = simp (length-take, length-drop) (omega arith) in
+    let j : min 8 (length (take k (drop a l))) ≡ k = omega arith in
+    (p .0 ∙ rw (take-all 8 (take k (drop a l)) (omega arith)), rw j at (p .1))
+
+-- ---- written
+
+pub pack-whole : (block : List ℤ) (p : Saved) (z o₁ o₂ o₃ o₄ o₅ : List ℕ) (s : ℕ) → length block ≡ 234 → length z ≡ 488 → o₁ ≡ to-bytes block z
+    → take 472 o₂ ≡ take 468 o₁ ++ number-bytes 4 (p .counts .frames) → take 476 o₃ ≡ take 472 o₂ ++ number-bytes 4 (p .counts .lost)
+    → take 484 o₄ ≡ take 476 o₃ ++ number-bytes 8 (p .at) → s ≡ crc32 (take 484 o₄) → take 488 o₅ ≡ take 484 o₄ ++ number-bytes 4 s → length o₅ ≡ 488
+    → o₅ ≡ pack block p
+unfolding pack body
+pack-whole block p z o₁ o₂ o₃ o₄ o₅ s h k e₁ e₂ e₃ e₄ g e₅ n =
+    let d : 2 * length block ≡ 468 = omega arith in
+    let a : take 468 o₁ ≡ bytes block = rw (e₁, ← d) (to-front block z (omega arith)) in
+    let f : take 484 o₄ ≡ bytes block ++ (number-bytes 4 (p .counts .frames) ++ (number-bytes 4 (p .counts .lost) ++ number-bytes 8 (p .at))) =
+    e₄ ∙ rw (e₃, e₂, a) (simp append-assoc) in
+    sym (take-all 488 o₅ (omega arith)) ∙ e₅ ∙ rw (g, f)
+
+-- ---- read
+
+pub sum-is : (f : List ℕ) (n s : ℕ) → length f ≡ 488
+    → (n ≡ number (take 8 (take 4 (drop 484 f)))) × (n < 2 ^ (8 * min 8 (length (take 4 (drop 484 f))))) → s ≡ crc32 (take 484 f) → eqb n s ≡ sum-fits f
+unfolding sum-fits
+sum-is f n s h p e = rw (part-number f 484 4 n (omega arith) (omega arith) p .0, e)
+
+pub block-is : (f : List ℕ) (lent z : List ℤ) → length f ≡ 488 → length lent ≡ 234 → z ≡ from-bytes (take 468 f) lent → z ≡ block f
+unfolding block
+block-is f lent z h k e = e ∙ from-whole (take 468 f) lent (rw length-take (omega arith))
+
+-- the tests of `check`, in their order
+pub check-length : (f : List ℕ) → length f ≢ 488 → 3 ≡ check f
+unfolding check
+check-length f h = rw (ne-eqb _ _ h)
+
+pub check-sum : (f : List ℕ) → length f ≡ 488 → sum-fits f ≡ false → 22 ≡ check f
+unfolding check
+check-sum f h e = rw (eq-eqb _ _ h, e)
+
+pub check-counts : (f : List ℕ) (p : Saved) → length f ≡ 488 → sum-fits f ≡ true → p ≡ place f → counts-fit p ≡ false → 22 ≡ check f
+unfolding check
+check-counts f p h e g k = rw (eq-eqb _ _ h, e, ← g, k)
+
+pub check-state : (f : List ℕ) (p : Saved) (b : List ℤ) (r : ℕ) → length f ≡ 488 → sum-fits f ≡ true → p ≡ place f → counts-fit p ≡ true → b ≡ block f → r ≡ state-check b → r ≡ check f
+unfolding check
+check-state f p b r h e g k i j = rw (eq-eqb _ _ h, e, ← g, k, ← i) j
+
+-- a file that is not refused has 488 bytes
+pub check-zero : (f : List ℕ) → check f ≡ 0 → length f ≡ 488
+unfolding check
+check-zero f e = by (eqb (length f) 488) refl
+  where
+    by : (t : Bool) → eqb (length f) 488 ≡ t → length f ≡ 488
+    by true h = eqb-true _ _ h
+    by false h = let z : _≡_ {A = ℕ} 3 0 = rw h at e in absurd (omega arith)
+
+pub read-refused : (f : List ℕ) (lent : List ℤ) (r : ℕ) → r ≡ check f → (r ≡ 0 → ⊥) → answer r nowhere lent ≡ read f lent
+unfolding read
+read-refused f lent r e h = rw (← e, ne-eqb _ _ h)
+
+pub read-done : (f : List ℕ) (lent z : List ℤ) (r : ℕ) (p : Saved) → r ≡ check f → r ≡ 0 → p ≡ place f → length lent ≡ 234 → z ≡ from-bytes (take 468 f) lent → answer r p z ≡ read f lent
+unfolding read
+read-done f lent z r p e h g k i =
+    let n : length f ≡ 488 = check-zero f (sym e ∙ h) in
+    rw (← e, eq-eqb _ _ h, h, g, block-is f lent z n k i)

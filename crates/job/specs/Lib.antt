@@ -1,0 +1,4 @@
+-- The definitions that the contracts of `job` cite, and their laws.
+pub mod Crc32
+pub mod Job
+pub mod Laws
