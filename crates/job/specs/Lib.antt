@@ -2,3 +2,5 @@
 pub mod Crc32
 pub mod Job
 pub mod Laws
+pub mod Damage
+pub mod Back
