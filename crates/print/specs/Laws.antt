@@ -5,11 +5,11 @@ use mathlib.Core.List.{List, [], _∷_, _++_, append-assoc, append-nil}
 use Prim.Native.Nat.{ℕ, zero, suc, _+_, _-_, _*_, _/_, _%_, _^_, _≤_, _<_}
 use native.Mathlib.Omega.{arith}
 use native.Mathlib.Numerals.{add-one}
-use native.Mathlib.Nat.{add-zero}
+use native.Mathlib.Nat.{add-zero, zero-add}
 use lib.Dec.{ltb}
 use lib.IntN.{ℤ, pos, negsuc}
-use lib.ListN.{length, getD, take, set, length-set, length-append}
-use lib.Seq.{take-suc, take-suc-set, take-all, take-length}
+use lib.ListN.{length, getD, take, drop, set, length-set, length-append}
+use lib.Seq.{take-suc, take-suc-set, take-all, take-length, paste, paste-zero, paste-suc, take-paste, getD-append-seam, take-append-seam, drop-append-add, drop-drop}
 use borrow.Author.Tests.{ltb-true, ltb-false, lt-ltb, le-ltb}
 use lib.Signed.{mag}
 use mir.Syntax.{w16}
@@ -18,7 +18,7 @@ use mir.Facts.{toZ-ofZ}
 use Rattle.basic_op.specs.Ops.{low16}
 use Rattle.basic_op.specs.Low.{low-lt}
 use Rattle.laws.specs.Lists.{at}
-use Rattle.print.specs.Print.{digit, word, words, pcm, digits, decimal}
+use Rattle.print.specs.Print.{digit, word, words, pcm, digits, decimal, over}
 
 -- a part's length by another name
 upto : (l p : List ℕ) (m n : ℕ) → m ≡ n → take m l ≡ p → take n l ≡ p
@@ -57,24 +57,23 @@ word-none l out = sym (append-nil (take 5 out))
 pub words-end : (l : List ℤ) (out p : List ℕ) (n : ℕ) → take (5 + 4 * n) out ≡ p ++ words n l → n ≡ 80 → take 325 out ≡ p ++ words 80 l
 words-end l out p n e h = rw h at e
 
--- one byte of a part more
-pub put-more : (part out p : List ℕ) (from i : ℕ) → from + i < length out → i < length part → take (from + i) out ≡ p ++ take i part
-    → take (from + (i + 1)) (set out (from + i) (getD part i 0)) ≡ p ++ take (i + 1) part
-put-more part out p from i h k e =
-    upto (set out (from + i) (getD part i 0)) _ (from + i + 1) (from + (i + 1)) (omega arith) (more out (p ++ take i part) (from + i) (getD part i 0) h e)
-    ∙ rw (add-one, take-suc part i 0 k, append-assoc)
+-- a part written byte by byte
+pub paste-more : (d s out : List ℕ) (at j : ℕ) → at + j < length d → j < length s → out ≡ paste d at s j → set out (at + j) (getD s j 0) ≡ paste d at s (j + 1)
+paste-more d s out at j h k e = rw e (paste-suc d at s j 0 h k ∙ rw add-one)
 
-pub put-none : (part out : List ℕ) (from : ℕ) → take (from + 0) out ≡ take from out ++ take 0 part
-put-none part out from = rw add-zero (sym (append-nil (take from out)))
+pub paste-end : (d s out : List ℕ) (at j n : ℕ) → out ≡ paste d at s j → j ≡ n → out ≡ paste d at s n
+paste-end d s out at j n e h = rw h at e
 
-pub put-end : (part out p : List ℕ) (from i : ℕ) → take (from + i) out ≡ p ++ take i part → i ≡ length part → take (from + length part) out ≡ p ++ part
-put-end part out p from i e h = rw h at e ∙ rw take-length
+-- and what then stands up to its end
+pub paste-front : (d s out : List ℕ) (at : ℕ) → at ≤ length d → out ≡ paste d at s (length s) → take (at + length s) out ≡ take at d ++ s
+paste-front d s out at h e = rw e (take-paste d at s (length s) h (omega arith) ∙ rw (take-length s))
 
 -- the three parts of `(pcm H)`
-pub pcm-whole : (l : List ℤ) (a b d z : List ℕ) → a ≡ 40 ∷ 112 ∷ 99 ∷ 109 ∷ 32 ∷ [] → b ≡ a ++ words 80 l → d ≡ b ++ (41 ∷ 10 ∷ []) → take 327 z ≡ d
-    → length z ≡ 327 → z ≡ pcm l
+pub pcm-whole : (l : List ℤ) (out v w z : List ℕ) → v ≡ paste out 0 (40 ∷ 112 ∷ 99 ∷ 109 ∷ 32 ∷ []) 5 → take 325 w ≡ take 5 v ++ words 80 l → z ≡ paste w 325 (41 ∷ 10 ∷ []) 2
+    → 325 ≤ length w → length z ≡ 327 → z ≡ pcm l
 unfolding pcm
-pcm-whole l a b d z e f g k h = sym (take-all 327 z (omega arith)) ∙ k ∙ g ∙ rw (f, e, append-assoc)
+pcm-whole l out v w z e f g k h =
+    sym (take-all 327 z (omega arith)) ∙ paste-front w (41 ∷ 10 ∷ []) z 325 k g ∙ rw (f, paste-front out (40 ∷ 112 ∷ 99 ∷ 109 ∷ 32 ∷ []) v 0 (omega arith) e, append-assoc)
 
 -- ---- a printed sample read back
 
@@ -165,26 +164,55 @@ pub decimal-few : (k n : ℕ) → n < 10 ^ suc k → length (decimal n) ≤ suc 
 unfolding decimal
 decimal-few k n h = few (suc n) k n h
 
--- what is written of a number, in each of the two cases: the place behind it, and what stands in front of that place
-pub written-one : (n from : ℕ) (out : List ℕ) → n < 10 → from < length out
-    → (from + 1 ≤ from + 10) × ((from + 1 ≡ from + length (decimal n)) × (take (from + 1) (set out from (48 + n)) ≡ take from out ++ decimal n))
-written-one n from out h i = (omega arith, rw (decimal-one n h) (refl, more out (take from out) from (48 + n) i refl))
-
 -- all digits but the last are nine at most
 pub but-last : (n : ℕ) → n < 2 ^ 32 → length (decimal (n / 10)) ≤ 9
 but-last n h = decimal-few 8 (n / 10) (omega arith)
 
-pub written-more : (n from last : ℕ) (out p : List ℕ) → 10 ≤ n → n < 2 ^ 32 → last < length out → last ≡ from + length (decimal (n / 10))
-    → take last out ≡ p ++ decimal (n / 10)
-    → (last + 1 ≤ from + 10) × ((last + 1 ≡ from + length (decimal n)) × (take (last + 1) (set out last (48 + n % 10)) ≡ p ++ decimal n))
-written-more n from last out p h f i e g = (
+-- one byte behind a part that was written
+paste-snoc : (d s out : List ℕ) (at v : ℕ) → at + length s < length d → out ≡ paste d at s (length s) → set out (at + length s) v ≡ paste d at (s ++ (v ∷ [])) (length (s ++ (v ∷ [])))
+paste-snoc d s out at v h e =
+    let w : List ℕ = s ++ (v ∷ []) in
+    let lw : length w ≡ length s + 1 = length-append s (v ∷ []) in
+    let g : getD w (length s) 0 ≡ v = getD-append-seam s v [] 0 in
+    let k : take (length s) w ≡ s = take-append-seam s (v ∷ []) in
+    let q : out ≡ paste d at w (length s) = e ∙ rw (k, take-length s) in
+    rw lw (rw g at (paste-more d w out at (length s) h (omega arith) q))
+
+-- what is written of a number, in each of the two cases: the place behind it, and the bytes
+pub written-one : (n from : ℕ) (out : List ℕ) → n < 10 → from < length out
+    → (from + 1 ≤ from + 10) × ((from + 1 ≡ from + length (decimal n)) × (set out from (48 + n) ≡ paste out from (decimal n) (length (decimal n))))
+written-one n from out h i =
+    (omega arith, rw (decimal-one n h) (refl, rw add-zero at (paste-snoc out [] out from (48 + n) (omega arith) (paste-zero out from []))))
+
+pub written-more : (n from last : ℕ) (d out : List ℕ) → 10 ≤ n → n < 2 ^ 32 → last < length d → last ≡ from + length (decimal (n / 10))
+    → out ≡ paste d from (decimal (n / 10)) (length (decimal (n / 10)))
+    → (last + 1 ≤ from + 10) × ((last + 1 ≡ from + length (decimal n)) × (set out last (48 + n % 10) ≡ paste d from (decimal n) (length (decimal n))))
+written-more n from last d out h f i e g = (
   omega (arith, but-last n f),
-  rw (decimal-more n h) (rw length-append (omega arith), more out (p ++ decimal (n / 10)) last (48 + n % 10) i g ∙ append-assoc p (decimal (n / 10)) _),
+  rw (decimal-more n h) (rw length-append (omega arith), rw e (paste-snoc d (decimal (n / 10)) out from (48 + n % 10) (omega arith) g)),
 )
 
+-- a text built in lent bytes, each part behind the others
+pub over-none : (p out z : List ℕ) → z ≡ paste out 0 p (length p) → z ≡ over p out
+unfolding over
+over-none p out z e = e ∙ rw (take-length p, zero-add (length p))
+
+pub over-more : (p q out y z : List ℕ) (n : ℕ) → n ≡ length p → y ≡ over p out → z ≡ paste y n q (length q) → z ≡ over (p ++ q) out
+unfolding over
+over-more p q out y z n h e g =
+    g ∙ rw (e, take-length q, h, take-append-seam p (drop (length p) out), drop-append-add p (drop (length p) out) (length q), drop-drop (length q) (length p) out, length-append p q)
+
 -- a text of five parts, each written behind the others
-pub five : (p q r s t a b d e f : List ℕ) → p ≡ a → q ≡ p ++ b → r ≡ q ++ d → s ≡ r ++ e → t ≡ s ++ f → t ≡ a ++ (b ++ (d ++ (e ++ f)))
-five p q r s t a b d e f g h i j k = k ∙ rw (j, i, h, g) (simp append-assoc)
+pub five : (a b d e f v w x y z out : List ℕ) (m n k : ℕ) → v ≡ paste out 0 a (length a) → w ≡ paste v (length a) b (length b)
+    → m ≡ length a + length b → x ≡ paste w m d (length d) → n ≡ m + length d → y ≡ paste x n e (length e) → k ≡ n + length e → z ≡ paste y k f (length f)
+    → (k + length f ≡ length (a ++ (b ++ (d ++ (e ++ f))))) × (z ≡ over (a ++ (b ++ (d ++ (e ++ f)))) out)
+five a b d e f v w x y z out m n k h1 h2 g1 h3 g2 h4 g3 h5 =
+    let p1 : v ≡ over a out = over-none a out v h1 in
+    let p2 : w ≡ over (a ++ b) out = over-more a b out v w (length a) refl p1 h2 in
+    let p3 : x ≡ over ((a ++ b) ++ d) out = over-more (a ++ b) d out w x m (rw length-append (omega arith)) p2 h3 in
+    let p4 : y ≡ over (((a ++ b) ++ d) ++ e) out = over-more ((a ++ b) ++ d) e out x y n (simp length-append (omega arith)) p3 h4 in
+    let p5 : z ≡ over ((((a ++ b) ++ d) ++ e) ++ f) out = over-more (((a ++ b) ++ d) ++ e) f out y z k (simp length-append (omega arith)) p4 h5 in
+    (simp length-append (omega arith), simp append-assoc at p5)
 
 -- the number whose decimal digits are those of a and then l
 unfoldable pub read : ℕ → List ℕ → ℕ

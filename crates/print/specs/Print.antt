@@ -4,6 +4,7 @@ use mathlib.Core.List.{List, [], _∷_, _++_}
 use Prim.Native.Nat.{ℕ, zero, suc, _+_, _/_, _%_}
 use lib.Dec.{ltb}
 use lib.IntN.{ℤ}
+use lib.ListN.{length, drop}
 use Rattle.basic_op.specs.Ops.{low16}
 use Rattle.laws.specs.Lists.{at}
 
@@ -47,3 +48,7 @@ unfoldable pub refused : ℕ → ℕ → List ℕ
 refused code line =
     (40 ∷ 114 ∷ 101 ∷ 102 ∷ 117 ∷ 115 ∷ 101 ∷ 100 ∷ 32 ∷ 40 ∷ 99 ∷ 111 ∷ 100 ∷ 101 ∷ 32 ∷ [])
     ++ (decimal code ++ ((41 ∷ 32 ∷ 40 ∷ 108 ∷ 105 ∷ 110 ∷ 101 ∷ 32 ∷ []) ++ (decimal line ++ (41 ∷ 41 ∷ 10 ∷ []))))
+
+-- a text written over the front of lent bytes
+unfoldable pub over : List ℕ → List ℕ → List ℕ
+over s lent = s ++ drop (length s) lent

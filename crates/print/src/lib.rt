@@ -3,7 +3,8 @@ ghost use mathlib.Core.Path.{_≡_};
 ghost use mathlib.Core.List.{_++_};
 ghost use Prim.Native.Nat.{_+_, _<_, _≤_};
 ghost use lib.ListN.{length, take};
-ghost use Rattle.print.specs.Print.{digit, word, words, pcm, decimal, total, refused};
+ghost use lib.Seq.{paste};
+ghost use Rattle.print.specs.Print.{digit, word, words, pcm, decimal, total, refused, over};
 
 // The digit of a value below 16.
 fn digit(v: u16) -> u8
@@ -38,7 +39,7 @@ fn words(samples: &[i16; 80], out: &mut [u8; 327])
 // Writes `part` at place `from`.
 fn put(part: &[u8], from: usize, out: &mut [u8])
     requires { ⌜ from + length (now part) ≤ length (now out) ⌝ }
-    ensures { λ r. ⌜ take (from + length (now (part .entry))) (now (out .exit)) ≡ take from (now (out .entry)) ++ now (part .entry) ⌝ }
+    ensures { λ r. ⌜ now (out .exit) ≡ paste (now (out .entry)) from (now (part .entry)) (length (now (part .entry))) ⌝ }
 {
     let mut i = 0;
     while i < part.len() {
@@ -61,7 +62,7 @@ fn number(n: u32, from: usize, out: &mut [u8]) -> usize
     requires { ⌜ from + 10 ≤ length (now out) ⌝ }
     ensures { λ r. ⌜ r ≤ from + 10 ⌝ }
     ensures { λ r. ⌜ r ≡ from + length (decimal n) ⌝ }
-    ensures { λ r. ⌜ take r (now (out .exit)) ≡ take from (now (out .entry)) ++ decimal n ⌝ }
+    ensures { λ r. ⌜ now (out .exit) ≡ paste (now (out .entry)) from (decimal n) (length (decimal n)) ⌝ }
 {
     if n < 10 {
         out[from] = 48 + n as u8;
@@ -72,9 +73,9 @@ fn number(n: u32, from: usize, out: &mut [u8]) -> usize
     last + 1
 }
 
-// `(total (frames N) (lost M))`; answers its length, at most 46.
+// `(total (frames N) (lost M))`; answers its length, at most 46; the bytes behind it are as they were.
 pub fn total(frames: u32, lost: u32, out: &mut [u8; 46]) -> usize
-    ensures { λ r. ⌜ (r ≤ 46) × (take r (now (out .exit)) ≡ total frames lost) ⌝ }
+    ensures { λ r. ⌜ (r ≤ 46) × ((r ≡ length (total frames lost)) × (now (out .exit) ≡ over (total frames lost) (now (out .entry)))) ⌝ }
 {
     put(b"(total (frames ", 0, out);
     let a = number(frames, 15, out);
@@ -84,9 +85,9 @@ pub fn total(frames: u32, lost: u32, out: &mut [u8; 46]) -> usize
     b + 3
 }
 
-// `(refused (code C) (line L))`; answers its length, at most 46.
+// `(refused (code C) (line L))`; answers its length, at most 46; the bytes behind it are as they were.
 pub fn refused(code: u32, line: u32, out: &mut [u8; 46]) -> usize
-    ensures { λ r. ⌜ (r ≤ 46) × (take r (now (out .exit)) ≡ refused code line) ⌝ }
+    ensures { λ r. ⌜ (r ≤ 46) × ((r ≡ length (refused code line)) × (now (out .exit) ≡ over (refused code line) (now (out .entry)))) ⌝ }
 {
     put(b"(refused (code ", 0, out);
     let a = number(code, 15, out);

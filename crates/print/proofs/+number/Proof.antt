@@ -1,7 +1,6 @@
 -- `print::number` meets its contract: the number falls at the call, which writes all digits but the last.
 use Prim.Native.Nat.{ℕ, _<_}
 use native.Mathlib.Omega.{arith}
-use lib.ListN.{take}
 use borrow.Author.Needs.{needs}
 use borrow.Fn.Kinds.{In}
 use borrow.Fn.PlainCycle.{Measures, is, falls, and}
@@ -38,8 +37,8 @@ returns-2 t c =
     let b = c .before .before in
     let s = b .before .before .before .before in
     let e = b .number .ensures .1 in
-    written-more (s .args .n) (s .args .from) (b .number .result) _ (take (s .args .from) (s .args .out .now)) (omega arith) (s .fits .n .fits)
-    (omega (arith, but-last (s .args .n) (s .fits .n .fits), e .0, b .number .kept .1 .1 .0)) (e .0) (e .1)
+    written-more (s .args .n) (s .args .from) (b .number .result) (s .args .out .now) _ (omega arith) (s .fits .n .fits)
+    (omega (arith, but-last (s .args .n) (s .fits .n .fits), e .0)) (e .0) (e .1)
 
 pub +number-spec : {M : Type 1} → statement M
 +number-spec =

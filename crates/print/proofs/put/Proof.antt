@@ -1,22 +1,22 @@
--- `print::put` meets its contract: behind what stands in front are the bytes passed.
+-- `print::put` meets its contract: the bytes passed are written.
 use mathlib.Core.Path.{_≡_, refl}
-use mathlib.Core.List.{_++_}
 use Prim.Native.Nat.{_+_, _-_, _≤_}
 use native.Mathlib.Omega.{arith}
-use lib.ListN.{length, take, length-set}
+use lib.ListN.{length, length-set}
+use lib.Seq.{paste, paste-zero}
 use borrow.Author.Needs.{needs}
-use Rattle.print.specs.Laws.{put-none, put-more, put-end}
+use Rattle.print.specs.Laws.{paste-more, paste-end}
 use Rattle.print.proofs.put.Statement.{statement}
 use Rattle.print.proofs.put.Tie as tie
 
 abbrev Inv-loop : tie.InvT-loop
-Inv-loop part from out₀ i₀ out i = (i ≤ length part) × ((length out ≡ length out₀) × (take (from + i) out ≡ take from out₀ ++ take i part))
+Inv-loop part from out₀ i₀ out i = (i ≤ length part) × ((length out ≡ length out₀) × (out ≡ paste out₀ from part i))
 
 abbrev μ-loop : tie.MeasureT-loop
 μ-loop part from out₀ i₀ out i = length part - i
 
 loop-holds : tie.Need-loop-holds Inv-loop μ-loop
-loop-holds c = (search needs, (refl, put-none (c .args .part .now) (c .args .out .now) (c .args .from)))
+loop-holds c = (search needs, (refl, paste-zero (c .args .out .now) (c .args .from) (c .args .part .now)))
 
 loop-again : tie.Need-loop-again Inv-loop μ-loop
 loop-again c =
@@ -25,7 +25,7 @@ loop-again c =
       search needs,
       (
         simp length-set (search needs),
-        put-more (s .part .now) (l .loop .out) (take (s .from) (s .out .now)) (s .from) (l .loop .i) (omega arith) (omega arith) (l .loop .inv .1 .1),
+        paste-more (s .out .now) (s .part .now) (l .loop .out) (s .from) (l .loop .i) (omega arith) (omega arith) (l .loop .inv .1 .1),
       ),
     )
 
@@ -33,7 +33,7 @@ returns : tie.Need-returns Inv-loop μ-loop
 returns c =
     let l = c .before in
     let s = l .before .args in
-    put-end (s .part .now) (l .loop .out) (take (s .from) (s .out .now)) (s .from) (l .loop .i) (l .loop .inv .1 .1) (omega arith)
+    paste-end (s .out .now) (s .part .now) (l .loop .out) (s .from) (l .loop .i) (length (s .part .now)) (l .loop .inv .1 .1) (omega arith)
 
 pub put-spec : {M : Type 1} → statement M
 put-spec =

@@ -1,0 +1,79 @@
+-- A part of a call's text: whole lines are taken out of it, while what they print fits into the room lent for it. The laws of `Laws` say that parts make up `printed` of the whole.
+use mathlib.Core.Bool.{Bool, cond, _&&_}
+use mathlib.Core.List.{List, [], _∷_, _++_}
+use Prim.Native.Nat.{ℕ, zero, suc, _-_}
+use lib.Dec.{eqb, leb, ltb}
+use lib.IntN.{ℤ}
+use lib.ListN.{length}
+use Rattle.count.specs.declared.Counted.{Counted}
+use Rattle.print.specs.Print.{over}
+use Rattle.state.specs.State as State
+use Rattle.words.specs.Words.{words}
+use Rattle.call.specs.Call.{Job, Step, line-step}
+
+-- what the lines that were taken print, what is kept after them, and the bytes behind them
+pub record Part : Type 0 where
+  pub text : List ℕ
+  pub job : Job
+  pub unused : List ℕ
+
+-- no line is taken
+unfoldable pub none : Job → List ℕ → Part
+none job l = record { text = []; job = job; unused = l }
+
+-- the same behind a line that printed s
+unfoldable pub behind : List ℕ → Part → Part
+behind s p = record { text = s ++ p .text; job = p .job; unused = p .unused }
+
+-- a further line is taken while the call goes on and a frame's 327 bytes have room
+unfoldable pub goes-on : Job → ℕ → Bool
+goes-on job room = eqb (job .code) 0 && leb 327 room
+
+-- the whole lines at the front of a text, of which `held` are the bytes of the line so far
+unfoldable pub part : List ℤ → Job → ℕ → List ℕ → List ℕ → Part
+part t job room held [] = none job held
+part t job room held (b ∷ text) =
+    let s : Step = line-step t job held in
+    cond (goes-on job room)
+    (cond (eqb b 10) (behind (s .text) (part t (s .job) (room - length (s .text)) [] text)) (part t job room (held ++ (b ∷ [])) text))
+    (none job (held ++ (b ∷ text)))
+
+-- what is kept, from the state block and the counts with their code
+unfoldable pub kept : List ℤ → Counted → Job
+kept b c = record { block = b; counts = c .counts; code = c .code }
+
+-- the lent bytes after a line: what it prints, or as they were where it is refused
+unfoldable pub left : Step → List ℕ → List ℕ
+left s lent = cond (eqb (s .job .code) 0) (s .text) lent
+
+-- what `lines` answers and leaves: the state block, the counts with their code, the number of bytes used and written, and the lent output
+pub data Answer : Type 0 where
+  answer : Job → ℕ → ℕ → List ℕ → Answer
+
+unfoldable pub given : List ℕ → List ℕ → Part → Answer
+given input out p = answer (p .job) (length input - length (p .unused)) (length (p .text)) (over (p .text) out)
+
+unfoldable pub lines : List ℤ → Job → List ℕ → List ℕ → Answer
+lines t job input out = given input out (part t job (length out) [] input)
+
+-- how many bytes stand before the first line feed, or the end
+unfoldable pub to-feed : List ℕ → ℕ
+to-feed [] = 0
+to-feed (b ∷ l) = cond (eqb b 10) 0 (suc (to-feed l))
+
+-- more than 36 bytes without a line feed are no line, whatever follows: code 9
+unfoldable pub overlong : List ℕ → ℕ → ℕ
+overlong l code = cond (eqb code 0 && ltb 36 (to-feed l)) 9 code
+
+-- ---- the tables
+
+-- what `begin` answers and leaves: a number, the table block and the state block
+pub data Begun : Type 0 where
+  begun : ℕ → List ℤ → List ℤ → Begun
+
+unfoldable pub with-state : List ℤ → State.Answer → Begun
+with-state t (State.answer code b) = begun code t b
+
+-- 1: not 3,760 bytes, or not 1,880 words lent for them. 2: the table check, 3: not 234 words lent for the state; the words of the file are then there
+unfoldable pub begin : List ℕ → List ℤ → List ℤ → Begun
+begin file t b = cond (eqb (length file) 3760 && eqb (length t) 1880) (with-state (words file) (State.fresh-state (words file) b)) (begun 1 t b)

@@ -1,0 +1,143 @@
+// The decoding program (01, "The call text and the program"): tables from the file `tables.g729`, a call from standard input, samples and the last form to standard
+// output. What is printed is `output` of call.specs.Call; no contract can say what is read or written, so the work is done by crate call on slices.
+ghost use Prim.Native.Nat.{_≤_, _<_};
+use count::Counted;
+use count::Counts;
+use libc::STDIN_FILENO;
+use libc::STDOUT_FILENO;
+
+// Where the program is: the counts and the code, the bytes of the input buffer that are not used yet, and whether it goes on.
+struct Place {
+    job: Counted,
+    from: usize,
+    to: usize,
+    more: bool,
+    // False where standard output could not be written.
+    good: bool,
+}
+
+// Writes to standard output; false, with a message on standard error, where that fails.
+fn write(text: &[u8]) -> bool {
+    let done = io::write_all(STDOUT_FILENO, text);
+    if !done {
+        os::fail(b"standard output");
+    }
+    done
+}
+
+// Reads on behind the bytes that are kept. A read that fails is the end of the text.
+fn read(job: Counted, from: usize, to: usize, input: &mut [u8; 65536]) -> Place
+    ensures { λ r. ⌜ (r .from ≤ r .to) × (r .to ≤ 65536) ⌝ }
+{
+    let kept = call::keep(input, from, to);
+    let room = &mut input[kept..];
+    let answer = libc::read(STDIN_FILENO, room);
+    let got = io::count(answer, room);
+    Place {
+        job,
+        from: 0,
+        to: kept + got,
+        more: 0 < got,
+        good: true,
+    }
+}
+
+// The whole lines that are there, as many as the output buffer has room for; where there is none, reads on.
+fn turn(
+    t: &[i16; 1880],
+    b: &mut [i16; 234],
+    p: Place,
+    input: &mut [u8; 65536],
+    out: &mut [u8; 65536],
+) -> Place
+    requires { ⌜ (p .from ≤ p .to) × (p .to ≤ 65536) ⌝ }
+    ensures { λ r. ⌜ (r .from ≤ r .to) × (r .to ≤ 65536) ⌝ }
+{
+    let from = p.from;
+    let to = p.to;
+    let job = p.job;
+    let taken = call::lines(t, b, job, &input[from..to], out);
+    let next = taken.job;
+    let at = from + taken.used;
+    let written = taken.written;
+    let good = write(&out[0..written]);
+    let code = call::overlong(next.code, &input[at..to]);
+    let counts = next.counts;
+    let more = good && code == 0;
+    if more && written == 0 {
+        return read(next, at, to, input);
+    }
+    Place {
+        job: Counted { code, counts },
+        from: at,
+        to,
+        more,
+        good,
+    }
+}
+
+// How many turns may follow.
+fn rest(most: u32, more: bool) -> u32
+    requires { ⌜ 0 < most ⌝ }
+    ensures { λ r. ⌜ r < most ⌝ }
+{
+    if more { most - 1 } else { 0 }
+}
+
+// All lines of a call. There are fewer turns than 2^32: each takes a line, of which there are 360,001 at most, or reads a byte, of which 37 at most without a line feed.
+fn decode(t: &[i16; 1880], b: &mut [i16; 234]) {
+    let mut input = io::large_buffer();
+    let mut out = io::large_buffer();
+    let mut p = Place {
+        job: Counted {
+            code: 0,
+            counts: Counts { frames: 0, lost: 0 },
+        },
+        from: 0,
+        to: 0,
+        more: true,
+        good: true,
+    };
+    let mut most: u32 = 4294967295;
+    while 0 < most {
+        p = turn(t, b, p, &mut input, &mut out);
+        most = rest(most, p.more);
+    }
+    if p.good {
+        let from = p.from;
+        let to = p.to;
+        let mut form = [0u8; 46];
+        let n = call::finish(p.job, &input[from..to], &mut form);
+        write(&form[0..n]);
+    }
+}
+
+// The bytes of the table file, at most 3,761, so that a longer file is noticed; none where it can't be opened.
+fn read_tables(file: &mut [u8; 3761]) -> usize
+    ensures { λ r. ⌜ r ≤ 3761 ⌝ }
+{
+    let name = b"tables.g729";
+    let fd = os::open_read(name);
+    if fd < 0 {
+        os::fail(name);
+        return 0;
+    }
+    let n = io::read_full(fd, file);
+    libc::close(fd);
+    n
+}
+
+fn main() {
+    let mut file = [0u8; 3761];
+    let mut t = [0i16; 1880];
+    let mut b = [0i16; 234];
+    let n = read_tables(&mut file);
+    let code = call::begin(&file[0..n], &mut t, &mut b);
+    if code == 0 {
+        decode(&t, &mut b);
+        return;
+    }
+    let mut form = [0u8; 46];
+    let length = print::refused(code, 0, &mut form);
+    write(&form[0..length]);
+}
