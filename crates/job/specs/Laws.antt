@@ -1,7 +1,7 @@
 -- Laws of the check sum and of the job file: the loops of `job`, what was written read back, and that no damaged byte goes unnoticed. Assumes nothing.
 use mathlib.Core.Path.{_≡_, refl, sym, ap, _∙_}
 use mathlib.Core.List.{List, [], _∷_, _++_, append-assoc}
-use Prim.Native.Nat.{ℕ, _+_, _-_, _*_, _^_, _≤_, _<_, min}
+use Prim.Native.Nat.{ℕ, suc, _+_, _-_, _*_, _/_, _%_, _^_, _≤_, _<_, min}
 use native.Mathlib.Omega.{arith}
 use native.Mathlib.Numerals.{add-one}
 use mathlib.Core.Bool.{Bool, true, false}
@@ -10,12 +10,18 @@ use borrow.Author.Tests.{eq-eqb, ne-eqb, eqb-true}
 use lib.Dec.{eqb}
 use lib.IntN.{ℤ}
 use lib.Bits.{bitXor}
-use lib.ListN.{length, take, drop, getD, length-append, length-take, length-drop}
-use lib.Seq.{take-suc, take-length, take-at, take-all}
+use lib.ListN.{length, take, drop, getD, length-append, length-take, length-drop, take-append-drop}
+use lib.Seq.{take-suc, take-length, take-at, take-all, drop-append-le}
+use Rattle.count.specs.declared.Counted.{Counted}
+use Rattle.print.specs.Print.{over}
+use Rattle.call.specs.Call.{Job}
+use Rattle.call.specs.Chunk as Chunk
 use Rattle.state.specs.State.{state-check}
 use Rattle.words.specs.Words.{bytes, from-bytes, to-bytes, number, number-bytes}
 use Rattle.words.specs.Laws.{from-whole, to-front, length-number-bytes}
 use Rattle.job.specs.declared.Saved.{Saved}
+use Rattle.job.specs.Part.{going, taken, part}
+use Rattle.job.specs.Part as Part
 use Rattle.job.specs.Job.{body, pack, block, place, sum-fits, counts-fit, check, answer, nowhere, read}
 use Rattle.job.specs.Crc32.{bit, bits, byte, run, crc32}
 
@@ -131,3 +137,30 @@ unfolding read
 read-done f lent z r p e h g k i =
     let n : length f ≡ 488 = check-zero f (sym e ∙ h) in
     rw (← e, eq-eqb _ _ h, h, g, block-is f lent z n k i)
+
+-- ---- a part of a call
+
+-- what lies behind the lent part of the output stays
+over-part : (s out v : List ℕ) (n : ℕ) → n ≤ length out → v ≡ over s (take n out) → length v ≡ n → v ++ drop n out ≡ over s out
+unfolding over
+over-part s out v n h e g =
+    let m : length (take n out) ≡ n = rw length-take (omega arith) in
+    let k : length s ≤ n = omega (arith, simp (length-append, length-drop) at (ap length e)) in
+    let i : length s ≤ length (take n out) = omega arith in
+    e′ ∙ append-assoc s _ (drop n out) ∙ rw (← drop-append-le (length s) (take n out) (drop n out) i, take-append-drop n out)
+  where
+    e′ : v ++ drop n out ≡ (s ++ drop (length s) (take n out)) ++ drop n out
+    e′ = rw e
+
+opened : (j j′ : Job) (u u′ w w′ : ℕ) (v v′ : List ℕ) → Chunk.answer j u w v ≡ Chunk.answer j′ u′ w′ v′ → (j ≡ j′) × ((u ≡ u′) × ((w ≡ w′) × (v ≡ v′)))
+opened j j′ u u′ w w′ v v′ e = (cc, (cc, (cc, cc)))
+
+pub part-is : (t b b′ : List ℤ) (p : Saved) (job : Counted) (most used written n at : ℕ) (input out v : List ℕ) → n ≡ min (327 * most) (length out)
+    → Chunk.answer (Chunk.kept b′ job) used written v ≡ Chunk.lines t (Chunk.kept b (record { code = 0; counts = p .counts })) input (take n out)
+    → length v ≡ n → at ≡ (p .at + used) % 2 ^ 64
+    → Part.answer (Chunk.kept b′ job) at written (most - written / 327) (v ++ drop n out) ≡ part t b p most input out
+unfolding part taken going Chunk.lines Chunk.given Chunk.kept
+part-is t b b′ p job most used written n at input out v h e g i =
+    let m : length (take n out) ≡ n = rw length-take (omega arith) in
+    let o = opened _ _ _ _ _ _ _ _ (rw m at e) in
+    rw (← h, i, o .0, o .1 .0, o .1 .1 .0, over-part _ out v n (omega arith) (o .1 .1 .1) g)

@@ -3,4 +3,5 @@ pub mod Crc32
 pub mod Job
 pub mod Laws
 pub mod Damage
+pub mod Part
 pub mod Back
