@@ -1,26 +1,29 @@
 -- Laws of the check sum and of the job file: the loops of `job`, what was written read back, and that no damaged byte goes unnoticed. Assumes nothing.
 use mathlib.Core.Path.{_≡_, refl, sym, ap, _∙_}
-use mathlib.Core.List.{List, [], _∷_, _++_, append-assoc}
+use mathlib.Core.List.{List, [], _∷_, _++_, append-assoc, append-nil}
 use Prim.Native.Nat.{ℕ, suc, _+_, _-_, _*_, _/_, _%_, _^_, _≤_, _<_, min}
 use native.Mathlib.Omega.{arith}
 use native.Mathlib.Numerals.{add-one}
-use mathlib.Core.Bool.{Bool, true, false}
+use mathlib.Core.Bool.{Bool, true, false, cond, _&&_}
 use mathlib.Core.Logic.{_≢_}
-use borrow.Author.Tests.{eq-eqb, ne-eqb, eqb-true}
-use lib.Dec.{eqb}
+use borrow.Author.Tests.{eq-eqb, ne-eqb, eqb-true, le-leb, lt-leb}
+use lib.Dec.{eqb, leb}
 use lib.IntN.{ℤ}
 use lib.Bits.{bitXor}
-use lib.ListN.{length, take, drop, getD, length-append, length-take, length-drop, take-append-drop}
-use lib.Seq.{take-suc, take-length, take-at, take-all, drop-append-le}
+use lib.ListN.{length, take, drop, getD, set, length-append, length-take, length-drop, take-append-drop, drop-of-length-le}
+use lib.Seq.{take-suc, take-length, take-all, drop-append-le, drop-cons, length-take-le, take-at, drop-at, drop-drop}
+use Rattle.count.specs.declared.Counts.{Counts}
 use Rattle.count.specs.declared.Counted.{Counted}
-use Rattle.print.specs.Print.{over}
+use Rattle.print.specs.Print.{over, total}
 use Rattle.call.specs.Call.{Job}
 use Rattle.call.specs.Chunk as Chunk
 use Rattle.state.specs.State.{state-check}
 use Rattle.words.specs.Words.{bytes, from-bytes, to-bytes, number, number-bytes}
 use Rattle.words.specs.Laws.{from-whole, to-front, length-number-bytes}
 use Rattle.job.specs.declared.Saved.{Saved}
-use Rattle.job.specs.Part.{going, taken, part}
+use Rattle.job.specs.Names.{new, aside, folder}
+use Rattle.job.specs.Names as Names
+use Rattle.job.specs.Part.{going, taken, part, no-number, digits, wanted, saved}
 use Rattle.job.specs.Part as Part
 use Rattle.job.specs.Job.{body, pack, block, place, sum-fits, counts-fit, check, answer, nowhere, read}
 use Rattle.job.specs.Crc32.{bit, bits, byte, run, crc32}
@@ -164,3 +167,97 @@ part-is t b b′ p job most used written n at input out v h e g i =
     let m : length (take n out) ≡ n = rw length-take (omega arith) in
     let o = opened _ _ _ _ _ _ _ _ (rw m at e) in
     rw (← h, i, o .0, o .1 .0, o .1 .1 .0, over-part _ out v n (omega arith) (o .1 .1 .1) g)
+
+-- ---- what is asked for, and what is said
+
+pub wanted-none : (l : List ℕ) → length l ≡ 0 → no-number ≡ wanted l
+unfolding wanted
+wanted-none l h = rw (eq-eqb _ _ h)
+
+digits-step : (l : List ℕ) (i n : ℕ) → i < length l
+    → digits n (drop i l) ≡ cond (leb 48 (getD l i 0) && leb (getD l i 0) 57) (digits (min (10 * n + (getD l i 0 - 48)) 360000) (drop (i + 1) l)) no-number
+unfolding digits
+digits-step l i n h = rw (drop-cons l i 0 h, add-one)
+
+module _ (l : List ℕ) (i n : ℕ) (h : i < length l) (e : digits 0 l ≡ digits n (drop i l)) where
+  pub wanted-low : getD l i 0 < 48 → no-number ≡ wanted l
+  unfolding wanted
+  wanted-low k = rw (ne-eqb (length l) 0 (λ z. omega arith), e, digits-step l i n h, lt-leb 48 (getD l i 0) k)
+
+  pub wanted-high : 48 ≤ getD l i 0 → 57 < getD l i 0 → no-number ≡ wanted l
+  unfolding wanted
+  wanted-high j k = rw (ne-eqb (length l) 0 (λ z. omega arith), e, digits-step l i n h, le-leb 48 (getD l i 0) j, lt-leb (getD l i 0) 57 k)
+
+  pub wanted-more : (m : ℕ) → 48 ≤ getD l i 0 → getD l i 0 ≤ 57 → m ≡ min (10 * n + (getD l i 0 - 48)) 360000 → digits 0 l ≡ digits m (drop (i + 1) l)
+  wanted-more m j k g = e ∙ rw (digits-step l i n h, le-leb 48 (getD l i 0) j, le-leb (getD l i 0) 57 k, g)
+
+pub wanted-end : (l : List ℕ) (i n : ℕ) → (length l ≡ 0 → ⊥) → length l ≤ i → digits 0 l ≡ digits n (drop i l) → record { good = true; most = n } ≡ wanted l
+unfolding wanted digits
+wanted-end l i n h k e = rw (ne-eqb (length l) 0 h, e, drop-of-length-le l {i = i} k)
+
+pub saved-is : (c : Counts) (n : ℕ) (o z : List ℕ) → n ≡ length (total (c .frames) (c .lost)) → z ≡ over (total (c .frames) (c .lost)) o
+    → (n ≡ length (saved c)) × (set (set (set (set (set z 1 115) 2 97) 3 118) 4 101) 5 100 ≡ over (saved c) o)
+unfolding saved total over
+saved-is c n o z h e = (h, rw e)
+
+-- ---- names
+
+pub aside-short : (path out : List ℕ) → length out < length path + 4 → (Names.answer 0 out ≡ aside path out) × (0 ≤ length out)
+unfolding aside
+aside-short path out h = (rw (lt-leb (length path + 4) (length out) h), omega arith)
+
+-- two parts written one behind the other
+two-parts : (path q out o v : List ℕ) (n : ℕ) → length path + length q ≤ length out → n ≡ length path → o ≡ take (length path) path ++ drop (length path) out
+    → v ≡ q ++ drop (length q) (take (length o - n) (drop n o)) → take n o ++ (v ++ drop (length o - n) (drop n o)) ≡ over (path ++ q) out
+unfolding over
+two-parts path q out o v n h e g i =
+    let r : List ℕ = drop (length path) out in
+    let g′ : o ≡ path ++ r = g ∙ rw take-length in
+    let a : take n o ≡ path = rw g′ (take-at path r n (sym e)) in
+    let b : drop n o ≡ r = rw g′ (drop-at path r n (sym e)) in
+    let lo : length o ≡ length out = ap length g′ ∙ length-append path r ∙ rw length-drop (omega arith) in
+    let lr : length r ≡ length o - n = rw length-drop (omega arith) in
+    let t : take (length o - n) r ≡ r = take-all (length o - n) r (omega arith) in
+    let d : drop (length o - n) r ≡ [] = drop-of-length-le r {i = length o - n} (omega arith) in
+    let w : drop (length q) r ≡ drop (length (path ++ q)) out = drop-drop (length q) (length path) out ∙ rw length-append in
+    rw (i, b, a, t, d, append-nil, w) (sym (append-assoc path q _))
+
+pub aside-done : (path out o v : List ℕ) (n m : ℕ) → length path + 4 ≤ length out → n ≡ length path → o ≡ take (length path) path ++ drop (length path) out → m ≡ 4
+    → v ≡ (46 ∷ 110 ∷ 101 ∷ 119 ∷ []) ++ drop 4 (take (length o - n) (drop n o))
+    → (Names.answer (n + m) (take n o ++ (v ++ drop (length o - n) (drop n o))) ≡ aside path out) × (n + m ≤ length out)
+unfolding aside new
+aside-done path out o v n m h e g f i =
+    let k : n + m ≡ length path + 4 = omega arith in
+    (rw (le-leb (length path + 4) (length out) h, two-parts path (46 ∷ 110 ∷ 101 ∷ 119 ∷ []) out o v n h e g i, k), omega arith)
+
+folder-snoc : (l : List ℕ) (b : ℕ) → folder (l ++ (b ∷ [])) ≡ cond (eqb b 47) (suc (length l)) (folder l)
+unfolding folder
+folder-snoc [] b = refl
+folder-snoc (x ∷ l) b = rw (folder-snoc l b) (by (eqb b 47))
+  where
+    by : (t : Bool) → cond (eqb (cond t (suc (length l)) (folder l)) 0) (cond (eqb x 47) 1 0) (suc (cond t (suc (length l)) (folder l))) ≡ cond t (suc (suc (length l))) (folder (x ∷ l))
+    by true = rw (ne-eqb (suc (length l)) 0 (λ z. omega arith))
+    by false = refl
+
+folder-take : (l : List ℕ) (n : ℕ) → n < length l → folder (take (suc n) l) ≡ cond (eqb (getD l n 0) 47) (suc n) (folder (take n l))
+folder-take l n h = rw (take-suc l n 0 h, folder-snoc, length-take-le n l (omega arith))
+
+module _ (l : List ℕ) (n : ℕ) (h : 0 < n) (k : n ≤ length l) (e : folder l ≡ folder (take n l)) where
+  last : suc (n - 1) ≡ n
+  last = omega arith
+
+  step : folder l ≡ cond (eqb (getD l (n - 1) 0) 47) (suc (n - 1)) (folder (take (n - 1) l))
+  step = e ∙ ap (λ (m : ℕ). folder (take m l)) (sym last) ∙ folder-take l (n - 1) (omega arith)
+
+  pub folder-here : getD l (n - 1) 0 ≡ 47 → n ≡ folder l
+  folder-here g = sym (step ∙ rw (eq-eqb _ _ g) last)
+
+  pub folder-not : (getD l (n - 1) 0 ≡ 47 → ⊥) → folder l ≡ folder (take (n - 1) l)
+  folder-not g = step ∙ rw (ne-eqb _ _ g)
+
+pub folder-all : (l : List ℕ) → folder l ≡ folder (take (length l) l)
+folder-all l = rw take-length
+
+pub folder-none : (l : List ℕ) (n : ℕ) → n ≤ 0 → folder l ≡ folder (take n l) → 0 ≡ folder l
+unfolding folder
+folder-none l n h e = let z : n ≡ 0 = omega arith in sym (rw z at e)

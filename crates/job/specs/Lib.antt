@@ -4,4 +4,5 @@ pub mod Job
 pub mod Laws
 pub mod Damage
 pub mod Part
+pub mod Names
 pub mod Back

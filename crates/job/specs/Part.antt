@@ -1,8 +1,8 @@
 -- A resumed call, a part at a time: where it is read from, where its forms go, how many frames a part has, and what is said of it.
-use mathlib.Core.Bool.{Bool, true, false, cond, _&&_}
+use mathlib.Core.Bool.{true, false, cond, _&&_}
 use mathlib.Core.List.{List, [], _∷_, _++_}
-use Prim.Native.Nat.{ℕ, zero, suc, _+_, _-_, _*_, _/_, _%_, _^_, min}
-use lib.Dec.{eqb, leb, ltb}
+use Prim.Native.Nat.{ℕ, _+_, _-_, _*_, _/_, _%_, _^_, min}
+use lib.Dec.{eqb, leb}
 use lib.IntN.{ℤ, pos}
 use lib.ListN.{length, drop}
 use Rattle.count.specs.declared.Counts.{Counts}
@@ -40,3 +40,20 @@ taken p most input out q =
 -- the whole lines at the front of the text from `at` on, at most so many and as many as have room, 327 bytes for each
 unfoldable pub part : List ℤ → List ℤ → Saved → ℕ → List ℕ → List ℕ → Answer
 part t b p most input out = taken p most input out (Chunk.part t (going b p) (min (327 * most) (length out)) [] input)
+
+-- ---- what is asked for, and what is said
+
+unfoldable pub no-number : Frames
+no-number = record { good = false; most = 0 }
+
+-- the number of the digits n and then l, 360,000 at most
+unfoldable pub digits : ℕ → List ℕ → Frames
+digits n [] = record { good = true; most = n }
+digits n (b ∷ l) = cond (leb 48 b && leb b 57) (digits (min (10 * n + (b - 48)) 360000) l) no-number
+
+unfoldable pub wanted : List ℕ → Frames
+wanted l = cond (eqb (length l) 0) no-number (digits 0 l)
+
+-- `(saved (frames N) (lost M))`: the total's form, with another first word
+unfoldable pub saved : Counts → List ℕ
+saved c = (40 ∷ 115 ∷ 97 ∷ 118 ∷ 101 ∷ 100 ∷ []) ++ drop 6 (total (c .frames) (c .lost))

@@ -1,10 +1,10 @@
 // A resumed call, a part at a time: where it is read from, where its forms go, how many frames a part has, and what is said of it. The files are the program's.
 ghost use mathlib.Core.Path.{_≡_};
-ghost use Prim.Native.Nat.{_*_, _≤_, min};
+ghost use Prim.Native.Nat.{_+_, _-_, _*_, _≤_, min};
 ghost use lib.ListN.{length};
 ghost use Rattle.call.specs.Chunk.{kept};
 ghost use Rattle.print.specs.Print.{over};
-ghost use Rattle.job.specs.Part.{position, offset, Answer, part};
+ghost use Rattle.job.specs.Part.{position, offset, Answer, part, wanted, saved};
 use crate::Saved;
 use count::Counted;
 use count::Counts;
@@ -55,14 +55,7 @@ pub fn offset(frames: u32) -> i64
 
 // Decodes the whole lines at the front of `input`, the call's text from `p.at` on, at most `most` of them and as many as `out` has room for. What they
 // print is at the front of `out`.
-pub fn part(
-    t: &[i16],
-    b: &mut [i16],
-    p: Saved,
-    most: u32,
-    input: &[u8],
-    out: &mut [u8],
-) -> Decoded
+pub fn part(t: &[i16], b: &mut [i16], p: Saved, most: u32, input: &[u8], out: &mut [u8]) -> Decoded
     ensures { λ r. ⌜ Answer.answer (kept (now (b .exit)) (r .job)) (r .at) (r .written) (r .left) (now (out .exit)) ≡ part (now (t .entry)) (now (b .entry)) p most (now (input .entry)) (now (out .entry)) ⌝ }
     ensures { λ r. ⌜ r .written ≤ length (now (out .entry)) ⌝ }
 {
@@ -80,4 +73,61 @@ pub fn part(
         written,
         left,
     }
+}
+
+// One digit more.
+fn further(n: u32, b: u8) -> u32
+    requires { ⌜ (n ≤ 360000) × (48 ≤ b) ⌝ }
+    ensures { λ r. ⌜ r ≡ min (10 * n + (b - 48)) 360000 ⌝ }
+{
+    let m = 10 * n + (b - 48) as u32;
+    if m < 360000 { m } else { 360000 }
+}
+
+// The number of frames that is asked for, 360,000 at most, as many as a call has; refused where it is no decimal number.
+pub fn wanted(text: &[u8]) -> Frames
+    ensures { λ r. ⌜ r ≡ wanted (now (text .entry)) ⌝ }
+{
+    if text.len() == 0 {
+        return Frames {
+            good: false,
+            most: 0,
+        };
+    }
+    let mut n = 0u32;
+    let mut i = 0;
+    while i < text.len() {
+        let b = text[i];
+        if b < 48 {
+            return Frames {
+                good: false,
+                most: 0,
+            };
+        }
+        if 57 < b {
+            return Frames {
+                good: false,
+                most: 0,
+            };
+        }
+        n = further(n, b);
+        i += 1;
+    }
+    Frames {
+        good: true,
+        most: n,
+    }
+}
+
+// `(saved (frames N) (lost M))`, said where a job stopped before the end of its call; answers its length.
+pub fn saved(c: Counts, out: &mut [u8; 46]) -> usize
+    ensures { λ r. ⌜ (r ≤ 46) × ((r ≡ length (saved c)) × (now (out .exit) ≡ over (saved c) (now (out .entry)))) ⌝ }
+{
+    let n = print::total(c.frames, c.lost, out);
+    out[1] = b's';
+    out[2] = b'a';
+    out[3] = b'v';
+    out[4] = b'e';
+    out[5] = b'd';
+    n
 }
