@@ -1,6 +1,7 @@
 // What is written: forms at their place in OUT, and the state file, written aside and renamed.
 use job::Saved;
 use libc::STDERR_FILENO;
+use libc::STDOUT_FILENO;
 
 // A line on standard error.
 pub(crate) fn say(name: &[u8], what: &[u8]) {
@@ -8,6 +9,14 @@ pub(crate) fn say(name: &[u8], what: &[u8]) {
     io::write_all(STDERR_FILENO, b": ");
     io::write_all(STDERR_FILENO, what);
     io::write_all(STDERR_FILENO, b"\n");
+}
+
+// The first n bytes of a form, on standard output.
+pub(crate) fn print(form: &[u8; 46], n: usize) {
+    let view = &form[..];
+    if n <= view.len() {
+        io::write_all(STDOUT_FILENO, &view[0..n]);
+    }
 }
 
 // Writes forms behind those of so many frames. False, with a message, where not all could be written.

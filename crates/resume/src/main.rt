@@ -35,18 +35,23 @@ fn stopped(place: Saved, most: u32) -> Todo {
     }
 }
 
-// The last form of a call, to OUT and to standard output. What stood behind it in OUT is cut off.
+// Writes a call's last form, the first n bytes, to OUT and to standard output. What stood behind it in OUT is cut off.
+fn put_last(form: &[u8; 46], n: usize, frames: u32, out: i32, name: &[u8]) {
+    let view = &form[..];
+    if n <= view.len() {
+        if !files::put(out, &view[0..n], frames, name) {
+            return;
+        }
+        if files::cut(out, frames, n, name) {
+            io::write_all(STDOUT_FILENO, &view[0..n]);
+        }
+    }
+}
+
 fn finish(job: Counted, held: &[u8], out: i32, name: &[u8]) {
     let mut form = [0u8; 46];
     let n = call::finish(job, held, &mut form);
-    let frames = job.counts.frames;
-    if !files::put(out, &form[0..n], frames, name) {
-        return;
-    }
-    if !files::cut(out, frames, n, name) {
-        return;
-    }
-    io::write_all(STDOUT_FILENO, &form[0..n]);
+    put_last(&form, n, job.counts.frames, out, name);
 }
 
 // No whole line stands at the place: the call ends there, or a line is too long. Answers whether the text goes on behind these bytes.
@@ -71,27 +76,21 @@ fn end(p: Saved, held: &[u8], fds: Fds, name: &[u8]) -> bool {
     false
 }
 
-// One part: the text from the place on is read and decoded, the forms are written, and when they are on the disk the state behind them is saved. A
-// part in which a line is refused saves nothing, so that the refusal is found again.
-fn turn(
+// Decodes a part of the text and writes the forms; when they are on the disk, the state behind them is saved. A part in which a line is refused saves
+// nothing, so that the refusal is found again.
+fn step(
     t: &[i16; 1880],
     b: &mut [i16; 234],
     r: Todo,
     fds: Fds,
     state: &[u8],
     name: &[u8],
-    input: &mut [u8],
+    input: &[u8],
     forms: &mut [u8],
 ) -> Todo {
     let place = r.place;
     let most = r.most;
-    let got = libc::pread(fds.text, input, job::parts::position(place.at));
-    if got < 0 {
-        os::fail(b"CALL");
-        return stopped(place, most);
-    }
-    let n = io::count(got, input);
-    let part = job::parts::part(t, b, place, most, &input[0..n], forms);
+    let part = job::parts::part(t, b, place, most, input, forms);
     let written = part.written;
     if !files::put(fds.out, &forms[0..written], place.counts.frames, name) {
         return stopped(place, most);
@@ -102,7 +101,7 @@ fn turn(
         return stopped(place, most);
     }
     if written == 0 {
-        let more = end(place, &input[0..n], fds, name);
+        let more = end(place, input, fds, name);
         return Todo { place, most, more };
     }
     let counts = job.counts;
@@ -121,6 +120,40 @@ fn turn(
         most: part.left,
         more: 0 < part.left,
     }
+}
+
+// One part: the text from the place on is read, and goes to `step`.
+fn read_on(
+    t: &[i16; 1880],
+    b: &mut [i16; 234],
+    r: Todo,
+    fds: Fds,
+    state: &[u8],
+    name: &[u8],
+    input: &mut [u8],
+    forms: &mut [u8],
+) -> Todo {
+    let got = libc::pread(fds.text, input, job::parts::position(r.place.at));
+    if got < 0 {
+        os::fail(b"CALL");
+        return stopped(r.place, r.most);
+    }
+    let n = io::count(got, input);
+    step(t, b, r, fds, state, name, &input[0..n], forms)
+}
+
+// The same on whole buffers.
+fn turn(
+    t: &[i16; 1880],
+    b: &mut [i16; 234],
+    r: Todo,
+    fds: Fds,
+    state: &[u8],
+    name: &[u8],
+    input: &mut [u8; 65536],
+    forms: &mut [u8; ROOM],
+) -> Todo {
+    read_on(t, b, r, fds, state, name, input, forms)
 }
 
 // How many turns may follow.
@@ -169,7 +202,7 @@ fn stop(p: Saved, out: i32, name: &[u8]) {
     }
     let mut form = [0u8; 46];
     let n = job::parts::saved(counts, &mut form);
-    io::write_all(STDOUT_FILENO, &form[0..n]);
+    files::print(&form, n);
 }
 
 // Everything is read and opened before anything is written. A new job's state is written before OUT is made.
@@ -197,17 +230,22 @@ fn run(text: &[u8], state: &[u8], name: &[u8], most: u32) {
     if out < 0 {
         return;
     }
-    let r = parts(&t, &mut b, place, most, Fds { text: call, out }, state, name);
+    let r = parts(
+        &t,
+        &mut b,
+        place,
+        most,
+        Fds { text: call, out },
+        state,
+        name,
+    );
     if r.most == 0 {
         stop(r.place, out, name);
     }
 }
 
 fn usage() {
-    io::write_all(
-        STDERR_FILENO,
-        b"usage: resume CALL STATE OUT [FRAMES]\n",
-    );
+    io::write_all(STDERR_FILENO, b"usage: resume CALL STATE OUT [FRAMES]\n");
 }
 
 // The fourth argument: at most so many frames; all where there is none.

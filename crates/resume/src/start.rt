@@ -5,7 +5,6 @@ ghost use lib.ListN.{length};
 use crate::files;
 use count::Counts;
 use job::Saved;
-use libc::STDOUT_FILENO;
 
 // Where the job goes on, and whether it is a new one; not good where it is refused.
 pub(crate) struct Begun {
@@ -17,7 +16,7 @@ pub(crate) struct Begun {
 fn refuse(code: u32) {
     let mut form = [0u8; 46];
     let n = print::refused(code, 0, &mut form);
-    io::write_all(STDOUT_FILENO, &form[0..n]);
+    files::print(&form, n);
 }
 
 // The bytes of a file at the front of `bytes`, none where it can't be opened.
@@ -54,7 +53,10 @@ pub(crate) fn tables(t: &mut [i16; 1880], b: &mut [i16; 234]) -> bool {
 
 fn say_state(name: &[u8], code: u32) {
     if code == 3 {
-        files::say(name, b"not 488 bytes, so no state file, or one that was cut short");
+        files::say(
+            name,
+            b"not 488 bytes, so no state file, or one that was cut short",
+        );
     } else if code == 22 {
         files::say(name, b"damaged: its check sum or its counts don't fit");
     } else {
@@ -106,7 +108,10 @@ pub(crate) fn open_call(name: &[u8], at: u64) -> i32 {
         return fd;
     }
     if libc::lseek(fd, 0, libc::SEEK_END) < job::parts::position(at) {
-        files::say(name, b"shorter than what the state has taken of it; is it another call?");
+        files::say(
+            name,
+            b"shorter than what the state has taken of it; is it another call?",
+        );
         return -1;
     }
     fd
@@ -125,7 +130,10 @@ pub(crate) fn open_out(name: &[u8], frames: u32) -> i32 {
             return made;
         }
         os::fail(name);
-        files::say(name, b"needed, since the state has frames that are written there");
+        files::say(
+            name,
+            b"needed, since the state has frames that are written there",
+        );
         return fd;
     }
     if libc::lseek(fd, 0, libc::SEEK_END) < job::parts::offset(frames) {
