@@ -1,4 +1,4 @@
--- A part of a call's text: whole lines are taken out of it, while what they print fits into the room lent for it. The laws of `Laws` say that parts make up `printed` of the whole.
+-- A part of a call's text: whole lines are taken out of it, while what they print fits into the room lent for it. `whole` of Whole says that parts make up `printed` of the whole text.
 use mathlib.Core.Bool.{Bool, cond, _&&_}
 use mathlib.Core.List.{List, [], _∷_, _++_}
 use Prim.Native.Nat.{ℕ, zero, suc, _-_}
@@ -21,7 +21,7 @@ pub record Part : Type 0 where
 unfoldable pub none : Job → List ℕ → Part
 none job l = record { text = []; job = job; unused = l }
 
--- the same behind a line that printed s
+-- a part behind a line that printed s
 unfoldable pub behind : List ℕ → Part → Part
 behind s p = record { text = s ++ p .text; job = p .job; unused = p .unused }
 

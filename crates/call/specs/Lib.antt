@@ -2,3 +2,4 @@
 pub mod Call
 pub mod Chunk
 pub mod Laws
+pub mod Whole

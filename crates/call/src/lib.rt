@@ -81,9 +81,12 @@ pub fn line_step(
     }
     let n = plc::payload_length(read.kind);
     let mut samples = [0i16; 80];
-    let code = decoder::frame(t, b, read.kind, &payload[0..n], &mut samples);
-    if code != 0 {
-        return Counted { code, counts };
+    let refusal = decoder::frame(t, b, read.kind, &payload[0..n], &mut samples);
+    if refusal != 0 {
+        return Counted {
+            code: refusal,
+            counts,
+        };
     }
     print::pcm(&samples, out);
     next

@@ -1,6 +1,7 @@
 // The decoding program (01, "The call text and the program"): tables from the file `tables.g729`, a call from standard input, samples and the last form to standard
 // output. What is printed is `output` of call.specs.Call; no contract can say what is read or written, so the work is done by crate call on slices.
 ghost use Prim.Native.Nat.{_≤_, _<_};
+ghost use lib.ListN.{length};
 use count::Counted;
 use count::Counts;
 use libc::STDIN_FILENO;
@@ -25,14 +26,21 @@ fn write(text: &[u8]) -> bool {
     done
 }
 
+// Writes the front of a last form.
+fn write_form(form: &[u8; 46], n: usize) -> bool
+    requires { ⌜ n ≤ 46 ⌝ }
+{
+    let text: &[u8] = form;
+    write(&text[0..n])
+}
+
 // Reads on behind the bytes that are kept. A read that fails is the end of the text.
-fn read(job: Counted, from: usize, to: usize, input: &mut [u8; 65536]) -> Place
-    ensures { λ r. ⌜ (r .from ≤ r .to) × (r .to ≤ 65536) ⌝ }
+fn read(job: Counted, from: usize, to: usize, input: &mut [u8]) -> Place
+    ensures { λ r. ⌜ (r .from ≤ r .to) × (r .to ≤ length (now (input .entry))) ⌝ }
 {
     let kept = call::keep(input, from, to);
-    let room = &mut input[kept..];
-    let answer = libc::read(STDIN_FILENO, room);
-    let got = io::count(answer, room);
+    let answer = libc::read(STDIN_FILENO, &mut input[kept..]);
+    let got = io::count(answer, &input[kept..]);
     Place {
         job,
         from: 0,
@@ -43,15 +51,9 @@ fn read(job: Counted, from: usize, to: usize, input: &mut [u8; 65536]) -> Place
 }
 
 // The whole lines that are there, as many as the output buffer has room for; where there is none, reads on.
-fn turn(
-    t: &[i16; 1880],
-    b: &mut [i16; 234],
-    p: Place,
-    input: &mut [u8; 65536],
-    out: &mut [u8; 65536],
-) -> Place
-    requires { ⌜ (p .from ≤ p .to) × (p .to ≤ 65536) ⌝ }
-    ensures { λ r. ⌜ (r .from ≤ r .to) × (r .to ≤ 65536) ⌝ }
+fn turn(t: &[i16], b: &mut [i16], p: Place, input: &mut [u8], out: &mut [u8]) -> Place
+    requires { ⌜ (p .from ≤ p .to) × (p .to ≤ length (now input)) ⌝ }
+    ensures { λ r. ⌜ (r .from ≤ r .to) × (r .to ≤ length (now (input .entry))) ⌝ }
 {
     let from = p.from;
     let to = p.to;
@@ -84,10 +86,26 @@ fn rest(most: u32, more: bool) -> u32
     if more { most - 1 } else { 0 }
 }
 
+// The last form, unless standard output could not be written.
+fn end(p: Place, input: &[u8])
+    requires { ⌜ (p .from ≤ p .to) × (p .to ≤ length (now input)) ⌝ }
+{
+    if p.good {
+        let from = p.from;
+        let to = p.to;
+        let job = p.job;
+        let mut form = [0u8; 46];
+        let n = call::finish(job, &input[from..to], &mut form);
+        write_form(&form, n);
+    }
+}
+
 // All lines of a call. There are fewer turns than 2^32: each takes a line, of which there are 360,001 at most, or reads a byte, of which 37 at most without a line feed.
-fn decode(t: &[i16; 1880], b: &mut [i16; 234]) {
-    let mut input = io::large_buffer();
-    let mut out = io::large_buffer();
+fn decode(t: &[i16], b: &mut [i16]) {
+    let mut input_buffer = io::large_buffer();
+    let mut out_buffer = io::large_buffer();
+    let input: &mut [u8] = &mut input_buffer;
+    let out: &mut [u8] = &mut out_buffer;
     let mut p = Place {
         job: Counted {
             code: 0,
@@ -100,21 +118,15 @@ fn decode(t: &[i16; 1880], b: &mut [i16; 234]) {
     };
     let mut most: u32 = 4294967295;
     while 0 < most {
-        p = turn(t, b, p, &mut input, &mut out);
+        p = turn(t, b, p, input, out);
         most = rest(most, p.more);
     }
-    if p.good {
-        let from = p.from;
-        let to = p.to;
-        let mut form = [0u8; 46];
-        let n = call::finish(p.job, &input[from..to], &mut form);
-        write(&form[0..n]);
-    }
+    end(p, input);
 }
 
-// The bytes of the table file, at most 3,761, so that a longer file is noticed; none where it can't be opened.
-fn read_tables(file: &mut [u8; 3761]) -> usize
-    ensures { λ r. ⌜ r ≤ 3761 ⌝ }
+// The bytes of the table file, as many as there is room for; none where it can't be opened.
+fn read_tables(file: &mut [u8]) -> usize
+    ensures { λ r. ⌜ r ≤ length (now (file .entry)) ⌝ }
 {
     let name = b"tables.g729";
     let fd = os::open_read(name);
@@ -128,6 +140,7 @@ fn read_tables(file: &mut [u8; 3761]) -> usize
 }
 
 fn main() {
+    // One byte more than the tables have, so that a longer file is noticed.
     let mut file = [0u8; 3761];
     let mut t = [0i16; 1880];
     let mut b = [0i16; 234];
@@ -139,5 +152,5 @@ fn main() {
     }
     let mut form = [0u8; 46];
     let length = print::refused(code, 0, &mut form);
-    write(&form[0..length]);
+    write_form(&form, length);
 }

@@ -1,0 +1,296 @@
+-- However a call's text is cut into reads, and whatever room its output has, what is written, one part behind the other, is `printed` of the whole text: `whole`. Assumes nothing.
+use mathlib.Core.Path.{_≡_, refl, ap, sym, _∙_}
+use mathlib.Core.Bool.{Bool, true, false, cond, _&&_}
+use mathlib.Core.List.{List, [], _∷_, _++_, append-assoc, append-nil}
+use Prim.Native.Nat.{ℕ, zero, suc, _+_, _-_, _*_, _≤_, _<_}
+use native.Mathlib.Omega.{arith}
+use native.Mathlib.Nat.{sub-self}
+use lib.Dec.{eqb, leb, ltb}
+use lib.IntN.{ℤ}
+use lib.ListN.{length, take, drop, replicate, length-append, take-append-drop, length-take}
+use lib.Seq.{append-snoc, take-append-seam, drop-append-add, drop-length}
+use borrow.Author.Tests.{eq-eqb, ne-eqb, eqb-true, eqb-false, ltb-true}
+use Rattle.line.specs.Line as Line
+use Rattle.line.specs.Laws.{other-length}
+use Rattle.print.specs.Print.{refused, over}
+use Rattle.state.specs.State as State
+use Rattle.tables.specs.Layout.{table-check}
+use Rattle.words.specs.Words.{words}
+use Rattle.call.specs.Call.{Job, Step, stop, line-step, line-number, last-form, printed, fresh-job}
+use Rattle.call.specs.Chunk.{Part, none, behind, goes-on, part, Answer, answer, given, lines, to-feed, overlong, begun, with-state, begin}
+use Rattle.call.specs.Laws.{not-line}
+
+-- ---- what is done with a call, in any order, and what is then held
+
+-- bytes are read, behind those held; lines are taken out of these, with some room for what they print; a line that is overlong is refused
+pub data Act : Type 0 where
+  read : List ℕ → Act
+  take-lines : ℕ → Act
+  test-overlong : Act
+
+-- what is kept between lines, the bytes that are not used yet, and all that was written
+pub record Held : Type 0 where
+  pub job : Job
+  pub bytes : List ℕ
+  pub written : List ℕ
+
+-- the code alone is another
+unfoldable pub with-code : Job → ℕ → Job
+with-code job code = record { block = job .block; counts = job .counts; code = code }
+
+unfoldable pub act : List ℤ → Act → Held → Held
+act t (read l) h = record { job = h .job; bytes = h .bytes ++ l; written = h .written }
+act t (take-lines room) h =
+    let p : Part = part t (h .job) room [] (h .bytes) in
+    record { job = p .job; bytes = p .unused; written = h .written ++ p .text }
+act t test-overlong h = record { job = with-code (h .job) (overlong (h .bytes) (h .job .code)); bytes = h .bytes; written = h .written }
+
+unfoldable pub acts : List ℤ → List Act → Held → Held
+acts t [] h = h
+acts t (a ∷ l) h = acts t l (act t a h)
+
+-- the text that was read
+unfoldable pub text-of : List Act → List ℕ
+text-of [] = []
+text-of (read l ∷ r) = l ++ text-of r
+text-of (take-lines n ∷ r) = text-of r
+text-of (test-overlong ∷ r) = text-of r
+
+abbrev pub last-of : Job → List ℕ → List ℕ
+last-of job held = last-form (job .counts) (job .code) held
+
+-- ---- a call that has ended, and bytes held without a line feed
+
+last-ended : (job : Job) (a b : List ℕ) → (job .code ≡ 0 → ⊥) → last-of job a ≡ last-of job b
+unfolding last-form
+last-ended job a b h = rw (ne-eqb (job .code) 0 h)
+
+pub printed-ended : (t : List ℤ) (job : Job) (held text : List ℕ) → (job .code ≡ 0 → ⊥) → printed t job held text ≡ last-of job held
+unfolding printed
+printed-ended t job held [] h = refl
+printed-ended t job held (b ∷ text) h = rw (ne-eqb (job .code) 0 h)
+
+-- a line's bytes without its line feed
+feedless-rest : (b : ℕ) (l : List ℕ) → to-feed (b ∷ l) ≡ length (b ∷ l) → (eqb b 10 ≡ false) × (to-feed l ≡ length l)
+unfolding to-feed
+feedless-rest b l = by (eqb b 10)
+  where
+    by : (p : Bool) → cond p 0 (suc (to-feed l)) ≡ suc (length l) → (p ≡ false) × (to-feed l ≡ length l)
+    by true e = absurd (omega arith)
+    by false e = (refl, omega arith)
+
+feedless-more : (l : List ℕ) (b : ℕ) → to-feed l ≡ length l → eqb b 10 ≡ false → to-feed (l ++ (b ∷ [])) ≡ length (l ++ (b ∷ []))
+unfolding to-feed
+feedless-more [] b h e = rw e
+feedless-more (x ∷ l) b h e =
+    let f = feedless-rest x l h in
+    rw (f .0, feedless-more l b (f .1) e)
+
+no-feed : to-feed [] ≡ length {A = ℕ} []
+unfolding to-feed
+no-feed = refl
+
+-- held bytes may as well be read again
+again : (t : List ℤ) (job : Job) (a held text : List ℕ) → to-feed held ≡ length held → printed t job (a ++ held) text ≡ printed t job a (held ++ text)
+unfolding printed
+again t job a [] text h = rw append-nil
+again t job a (b ∷ held) text h = by (eqb (job .code) 0) refl (again t job (a ++ (b ∷ [])) held text (feedless-rest b held h .1))
+  where
+    by : (p : Bool) → eqb (job .code) 0 ≡ p → printed t job ((a ++ (b ∷ [])) ++ held) text ≡ printed t job (a ++ (b ∷ [])) (held ++ text)
+        → printed t job (a ++ (b ∷ held)) text ≡ printed t job a (b ∷ (held ++ text))
+    by true e f = rw (e, feedless-rest b held h .0, ← append-snoc a b held) f
+    by false e f =
+        let n : job .code ≡ 0 → ⊥ = eqb-false (job .code) 0 e in
+        printed-ended t job (a ++ (b ∷ held)) text n ∙ last-ended job (a ++ (b ∷ held)) a n ∙ sym (printed-ended t job a (b ∷ (held ++ text)) n)
+
+-- ---- a part of the text
+
+going-code : (job : Job) (room : ℕ) → goes-on job room ≡ true → eqb (job .code) 0 ≡ true
+unfolding goes-on
+going-code job room = by (eqb (job .code) 0) (leb 327 room)
+  where
+    by : (p q : Bool) → (p && q) ≡ true → p ≡ true
+    by true q e = refl
+    by false q e = e
+
+-- what a part's lines print, and what is printed of the bytes behind them, is what is printed of the whole
+abbrev Made : List ℤ → Job → ℕ → List ℕ → List ℕ → List ℕ → Type 0
+Made t job room held l rest =
+    printed t job held (l ++ rest) ≡ part t job room held l .text ++ printed t (part t job room held l .job) [] (part t job room held l .unused ++ rest)
+
+pub part-made : (t : List ℤ) (job : Job) (room : ℕ) (held l rest : List ℕ) → to-feed held ≡ length held → Made t job room held l rest
+unfolding part none behind printed
+part-made t job room held [] rest h = again t job [] held rest h
+part-made t job room held (b ∷ l) rest h =
+    by (goes-on job room) (eqb b 10) refl refl (part-made t (s .job) (room - length (s .text)) [] l rest no-feed) (λ e. part-made t job room (held ++ (b ∷ [])) l rest (feedless-more held b h e))
+  where
+    s : Step
+    s = line-step t job held
+
+    by : (p q : Bool) → goes-on job room ≡ p → eqb b 10 ≡ q → Made t (s .job) (room - length (s .text)) [] l rest
+        → (eqb b 10 ≡ false → Made t job room (held ++ (b ∷ [])) l rest) → Made t job room held (b ∷ l) rest
+    by true true e g f k = rw (e, g, going-code job room e) (ap (λ (x : List ℕ). s .text ++ x) f ∙ sym (append-assoc (s .text) _ _))
+    by true false e g f k = rw (e, g, going-code job room e) (k g)
+    by false q e g f k = rw (e, append-assoc held (b ∷ l) rest) (again t job [] held ((b ∷ l) ++ rest) h)
+
+-- the bytes behind a part's lines are the end of the part
+suffix-more : (a l u : List ℕ) → length u ≤ length l → drop (length l - length u) l ≡ u → drop (length (a ++ l) - length u) (a ++ l) ≡ u
+suffix-more a l u h e =
+    let n : length (a ++ l) - length u ≡ length a + (length l - length u) = rw length-append (omega arith) in
+    rw (n, drop-append-add a l (length l - length u)) e
+
+abbrev Suffix : List ℕ → List ℕ → Type 0
+Suffix u l = (length u ≤ length l) × (drop (length l - length u) l ≡ u)
+
+suffix-self : (l : List ℕ) → Suffix l l
+suffix-self l = (omega arith, rw (sub-self (length l)))
+
+suffix-behind : (a l u : List ℕ) → Suffix u l → Suffix u (a ++ l)
+suffix-behind a l u h = (rw length-append (omega arith), suffix-more a l u (h .0) (h .1))
+
+part-suffix : (t : List ℤ) (job : Job) (room : ℕ) (held l : List ℕ) → Suffix (part t job room held l .unused) (held ++ l)
+unfolding part none behind
+part-suffix t job room held [] = rw append-nil (suffix-self held)
+part-suffix t job room held (b ∷ l) =
+    by (goes-on job room) (eqb b 10) refl refl (part-suffix t (s .job) (room - length (s .text)) [] l) (part-suffix t job room (held ++ (b ∷ [])) l)
+  where
+    s : Step
+    s = line-step t job held
+
+    by : (p q : Bool) → goes-on job room ≡ p → eqb b 10 ≡ q → Suffix (part t (s .job) (room - length (s .text)) [] l .unused) l
+        → Suffix (part t job room (held ++ (b ∷ [])) l .unused) ((held ++ (b ∷ [])) ++ l) → Suffix (part t job room held (b ∷ l) .unused) (held ++ (b ∷ l))
+    by true true e g f k = rw (e, g, ← append-snoc held b l) (suffix-behind (held ++ (b ∷ [])) l _ f)
+    by true false e g f k = rw (e, g, ← append-snoc held b l) k
+    by false q e g f k = rw e (suffix-self (held ++ (b ∷ l)))
+
+-- the promise of `lines` makes reads compose: what it wrote, and what is printed of the bytes that it did not use, is what is printed of all
+pub lines-made : (t : List ℤ) (job : Job) (input out : List ℕ) {next : Job} {used written : ℕ} {left : List ℕ} → answer next used written left ≡ lines t job input out → (rest : List ℕ)
+    → printed t job [] (input ++ rest) ≡ take written left ++ printed t next [] (drop used input ++ rest)
+unfolding lines given over
+lines-made t job input out {next} {used} {written} {left} e rest =
+    let p : Part = part t job (length out) [] input in
+    let hn : next ≡ p .job = cc in
+    let hu : used ≡ length input - length (p .unused) = cc in
+    let hw : written ≡ length (p .text) = cc in
+    let hl : left ≡ p .text ++ drop (length (p .text)) out = cc in
+    part-made t job (length out) [] input rest no-feed
+    ∙ rw (hn, hu, hw, hl, take-append-seam (p .text) (drop (length (p .text)) out), part-suffix t job (length out) [] input .1)
+
+-- ---- an overlong line
+
+long-line : (l : List ℕ) → 36 < length l → Line.line l (replicate 10 0) ≡ Line.answer 9 0 (replicate 10 0)
+unfolding Line.line Line.is Line.opening Line.size
+long-line l h =
+    rw (
+      other-length (Line.opening 0) l 10 (λ e. omega arith),
+      other-length (Line.opening 1) l 2 (λ e. omega arith),
+      other-length (Line.opening 2) l 0 (λ e. omega arith),
+      other-length (Line.opening 3) l 0 (λ e. omega arith),
+    )
+
+long-step : (t : List ℤ) (job : Job) (l : List ℕ) → 36 < length l → line-step t job l ≡ stop job 9
+long-step t job l h = not-line t job l (sym (long-line l h)) (λ e. omega arith)
+
+open-form : (job : Job) (held : List ℕ) → job .code ≡ 0 → 36 < length held → last-of job held ≡ refused 9 (line-number (job .counts))
+unfolding last-form
+open-form job held e h = rw (eq-eqb (job .code) 0 e, ne-eqb (length held) 0 (λ z. omega arith))
+
+nine-form : (t : List ℤ) (job : Job) (held text : List ℕ) → printed t (with-code job 9) held text ≡ refused 9 (line-number (job .counts))
+unfolding with-code last-form
+nine-form t job held text = printed-ended t (with-code job 9) held text (λ e. omega arith)
+
+long-held : (t : List ℤ) (job : Job) (held text : List ℕ) → job .code ≡ 0 → 36 < length held → printed t job held text ≡ refused 9 (line-number (job .counts))
+unfolding printed stop with-code
+long-held t job held [] e h = open-form job held e h
+long-held t job held (b ∷ text) e h = rw (eq-eqb (job .code) 0 e) (by (eqb b 10) (long-held t job (held ++ (b ∷ [])) text e (rw length-append (omega arith))))
+  where
+    n : List ℕ
+    n = refused 9 (line-number (job .counts))
+
+    by : (p : Bool) → printed t job (held ++ (b ∷ [])) text ≡ n
+        → cond p (line-step t job held .text ++ printed t (line-step t job held .job) [] text) (printed t job (held ++ (b ∷ [])) text) ≡ n
+    by true f = rw (long-step t job held h) (nine-form t job [] text)
+    by false f = f
+
+feedless-front : (l : List ℕ) → (length (take (to-feed l) l) ≡ to-feed l) × (to-feed (take (to-feed l) l) ≡ to-feed l)
+unfolding to-feed
+feedless-front [] = (refl, refl)
+feedless-front (b ∷ l) = by (eqb b 10) refl (feedless-front l)
+  where
+    by : (p : Bool) → eqb b 10 ≡ p → (length (take (to-feed l) l) ≡ to-feed l) × (to-feed (take (to-feed l) l) ≡ to-feed l)
+        → (length (take (cond p 0 (suc (to-feed l))) (b ∷ l)) ≡ cond p 0 (suc (to-feed l))) × (to-feed (take (cond p 0 (suc (to-feed l))) (b ∷ l)) ≡ cond p 0 (suc (to-feed l)))
+    by true e f = (refl, refl)
+    by false e f = (rw (f .0), rw (e, f .1))
+
+pub overlong-made : (t : List ℤ) (job : Job) (l rest : List ℕ) → printed t job [] (l ++ rest) ≡ printed t (with-code job (overlong l (job .code))) [] (l ++ rest)
+unfolding overlong with-code
+overlong-made t job l rest = by (eqb (job .code) 0) (ltb 36 (to-feed l)) refl refl
+  where
+    by : (p q : Bool) → eqb (job .code) 0 ≡ p → ltb 36 (to-feed l) ≡ q → printed t job [] (l ++ rest) ≡ printed t (with-code job (cond (p && q) 9 (job .code))) [] (l ++ rest)
+    by true true e g =
+        let f = feedless-front l in
+        let a : List ℕ = take (to-feed l) l in
+        let b : List ℕ = drop (to-feed l) l in
+        let h : 36 < length a = omega (arith, ltb-true 36 (to-feed l) g) in
+        let k : l ++ rest ≡ a ++ (b ++ rest) = ap (λ (x : List ℕ). x ++ rest) (sym (take-append-drop (to-feed l) l)) ∙ append-assoc a b rest in
+        rw k (sym (again t job [] a (b ++ rest) (f .1 ∙ sym (f .0))) ∙ long-held t job a (b ++ rest) (eqb-true (job .code) 0 e) h ∙ sym (nine-form t job [] (a ++ (b ++ rest))))
+    by true false e g = refl
+    by false q e g = refl
+
+-- ---- the theorem
+
+one-act : (t : List ℤ) (a : Act) (h : Held) (rest : List ℕ)
+    → h .written ++ printed t (h .job) [] (h .bytes ++ (text-of (a ∷ []) ++ rest)) ≡ act t a h .written ++ printed t (act t a h .job) [] (act t a h .bytes ++ rest)
+unfolding act text-of
+one-act t (read l) h rest = rw (append-nil l, append-assoc (h .bytes) l rest)
+one-act t (take-lines room) h rest = rw (part-made t (h .job) room [] (h .bytes) rest no-feed, append-assoc)
+one-act t test-overlong h rest = rw (overlong-made t (h .job) (h .bytes) rest)
+
+text-first : (a : Act) (l : List Act) → text-of (a ∷ l) ≡ text-of (a ∷ []) ++ text-of l
+unfolding text-of
+text-first (read r) l = rw (append-nil r)
+text-first (take-lines n) l = refl
+text-first test-overlong l = refl
+
+all-acts : (t : List ℤ) (l : List Act) (h : Held) (rest : List ℕ)
+    → h .written ++ printed t (h .job) [] (h .bytes ++ (text-of l ++ rest)) ≡ acts t l h .written ++ printed t (acts t l h .job) [] (acts t l h .bytes ++ rest)
+unfolding acts text-of
+all-acts t [] h rest = refl
+all-acts t (a ∷ l) h rest = rw (text-first a l, append-assoc (text-of (a ∷ [])) (text-of l) rest) (one-act t a h (text-of l ++ rest) ∙ all-acts t l (act t a h) rest)
+
+-- what was written and the last form are all that is printed
+pub record Whole (t : List ℤ) (l : List Act) (job : Job) (h : Held) : Type 0 where
+  -- where the text has ended, and no whole line is held
+  pub at-end : to-feed (h .bytes) ≡ length (h .bytes) → h .written ++ last-of (h .job) (h .bytes) ≡ printed t job [] (text-of l)
+  -- where a line was refused, whatever follows
+  pub at-refusal : (h .job .code ≡ 0 → ⊥) → (rest : List ℕ) → h .written ++ last-of (h .job) (h .bytes) ≡ printed t job [] (text-of l ++ rest)
+
+pub whole : (t : List ℤ) (l : List Act) (job : Job) → Whole t l job (acts t l (record { job = job; bytes = []; written = [] }))
+unfolding printed
+whole t l job =
+    let start : Held = record { job = job; bytes = []; written = [] } in
+    let h : Held = acts t l start in
+    record {
+      at-end = λ q. ap (λ (x : List ℕ). h .written ++ x) (again t (h .job) [] (h .bytes) [] q) ∙ sym (all-acts t l start []) ∙ ap (λ (x : List ℕ). printed t job [] x) (append-nil (text-of l));
+      at-refusal = λ n rest.
+          ap (λ (x : List ℕ). h .written ++ x) (last-ended (h .job) (h .bytes) [] n ∙ sym (printed-ended t (h .job) [] (h .bytes ++ rest) n)) ∙ sym (all-acts t l start rest);
+    }
+
+-- ---- the tables: in blocks of the right lengths, `begin` answers by the check of the file and leaves its words and the fresh state
+
+pub begin-is : (file : List ℕ) (t b : List ℤ) → length t ≡ 1880 → length b ≡ 234
+    → begin file t b
+    ≡ cond (eqb (length file) 3760)
+    (cond (eqb (table-check (words file)) 0) (begun 0 (words file) (fresh-job (words file) .block)) (begun (table-check (words file)) (words file) b))
+    (begun 1 t b)
+unfolding begin with-state State.fresh-state fresh-job
+begin-is file t b ht hb = rw (eq-eqb (length t) 1880 ht, eq-eqb (length b) 234 hb) (by (eqb (length file) 3760) (eqb (table-check (words file)) 0))
+  where
+    w : List ℤ
+    w = words file
+
+    by : (p q : Bool) → cond (p && true) (with-state w (cond q (State.answer 0 (State.write (State.fresh w))) (State.answer (table-check w) b))) (begun 1 t b)
+        ≡ cond p (cond q (begun 0 w (State.write (State.fresh w))) (begun (table-check w) w b)) (begun 1 t b)
+    by true true = refl
+    by true false = refl
+    by false q = refl

@@ -1,0 +1,39 @@
+-- `decode::decode` ends: each turn leaves fewer that may follow. What it knows of its buffers is their length.
+use mathlib.Core.Path.{_≡_, refl}
+use Prim.Native.Nat.{_≤_}
+use native.Mathlib.Omega.{arith}
+use lib.ListN.{length}
+use borrow.Author.Needs.{needs}
+use Rattle.decode.proofs.decode.Statement.{statement}
+use Rattle.decode.proofs.decode.Tie as tie
+
+abbrev Inv-loop : tie.InvT-loop
+Inv-loop t b₀ input₀ out₀ p₀ most₀ b input out p most = (length b ≡ length b₀) × ((length input ≡ length input₀) × ((length out ≡ length out₀) × ((p .from ≤ p .to) × (p .to ≤ length input))))
+
+abbrev μ-loop : tie.MeasureT-loop
+μ-loop t b₀ input₀ out₀ p₀ most₀ b input out p most = most
+
+loop-holds : tie.Need-loop-holds Inv-loop μ-loop
+loop-holds c = search needs
+
+loop-again : tie.Need-loop-again Inv-loop μ-loop
+loop-again c = search needs
+
+pub decode-spec : {M : Type 1} → statement M
+decode-spec =
+    tie.close
+    (tie.spec
+    Inv-loop
+    μ-loop
+    (λ c κs. search needs)
+    (λ c κs. search needs)
+    (λ c. search needs)
+    (λ c. search needs)
+    loop-holds
+    (λ c κs. search needs)
+    (λ c κs. search needs)
+    (λ c. search needs)
+    loop-again
+    (λ c κs. search needs)
+    (λ c. search needs)
+    (λ c. search needs))

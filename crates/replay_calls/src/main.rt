@@ -1,0 +1,195 @@
+// Replays texts of calls through crate call, in reads and outputs of given sizes, and prints what they give. Standard input has 3,760 bytes of tables, then for each call 20 bytes,
+// five numbers of four, low byte first: the length of its text, the bytes of a read, the bytes of output lent, and the counts that it starts with, frames and lost; then its text, at
+// most 65,536 bytes. What must be printed for each is the Rust's answer.
+ghost use Prim.Native.Nat.{_≤_, _<_, _+_};
+ghost use lib.ListN.{length};
+use count::Counted;
+use count::Counts;
+use libc::STDIN_FILENO;
+use libc::STDOUT_FILENO;
+
+// Where a call is: the counts and the code, the bytes of the input buffer that are not used yet, the place in the text, and whether it goes on.
+struct Place {
+    job: Counted,
+    from: usize,
+    to: usize,
+    at: usize,
+    more: bool,
+}
+
+fn lesser(a: usize, b: usize) -> usize
+    ensures { λ r. ⌜ (r ≤ a) × (r ≤ b) ⌝ }
+{
+    if a < b { a } else { b }
+}
+
+// A read: bytes of the text from `at` on to the input buffer from `to` on, `size` at most.
+fn feed(text: &[u8], at: usize, size: usize, input: &mut [u8], to: usize) -> usize
+    requires { ⌜ (at ≤ length (now text)) × (to ≤ length (now input)) ⌝ }
+    ensures { λ r. ⌜ (at + r ≤ length (now (text .entry))) × (to + r ≤ length (now (input .entry))) ⌝ }
+{
+    let n = lesser(size, lesser(text.len() - at, input.len() - to));
+    let mut i = 0;
+    while i < n {
+        input[to + i] = text[at + i];
+        i += 1;
+    }
+    n
+}
+
+// Reads on behind the bytes that are kept.
+fn read(
+    job: Counted,
+    from: usize,
+    to: usize,
+    text: &[u8],
+    place: usize,
+    size: usize,
+    input: &mut [u8],
+) -> Place
+    ensures { λ r. ⌜ (r .from ≤ r .to) × (r .to ≤ length (now (input .entry))) ⌝ }
+{
+    let at = lesser(place, text.len());
+    let kept = call::keep(input, from, to);
+    let got = feed(text, at, size, input, kept);
+    Place {
+        job,
+        from: 0,
+        to: kept + got,
+        at: at + got,
+        more: 0 < got,
+    }
+}
+
+// The whole lines that are there, as many as the output has room for; where there is none, reads on.
+fn turn(
+    t: &[i16],
+    b: &mut [i16],
+    p: Place,
+    text: &[u8],
+    size: usize,
+    input: &mut [u8],
+    out: &mut [u8],
+) -> Place
+    requires { ⌜ (p .from ≤ p .to) × (p .to ≤ length (now input)) ⌝ }
+    ensures { λ r. ⌜ (r .from ≤ r .to) × (r .to ≤ length (now (input .entry))) ⌝ }
+{
+    let from = p.from;
+    let to = p.to;
+    let at = p.at;
+    let job = p.job;
+    let taken = call::lines(t, b, job, &input[from..to], out);
+    let next = taken.job;
+    let end = from + taken.used;
+    let written = taken.written;
+    io::write_all(STDOUT_FILENO, &out[0..written]);
+    let code = call::overlong(next.code, &input[end..to]);
+    let counts = next.counts;
+    let more = code == 0;
+    if more && written == 0 {
+        return read(next, end, to, text, at, size, input);
+    }
+    Place {
+        job: Counted { code, counts },
+        from: end,
+        to,
+        at,
+        more,
+    }
+}
+
+// How many turns, or calls, may follow.
+fn rest(most: u32, more: bool) -> u32
+    requires { ⌜ 0 < most ⌝ }
+    ensures { λ r. ⌜ r < most ⌝ }
+{
+    if more { most - 1 } else { 0 }
+}
+
+fn write_form(form: &[u8; 46], n: usize)
+    requires { ⌜ n ≤ 46 ⌝ }
+{
+    let text: &[u8] = form;
+    io::write_all(STDOUT_FILENO, &text[0..n]);
+}
+
+fn end(p: Place, input: &[u8])
+    requires { ⌜ (p .from ≤ p .to) × (p .to ≤ length (now input)) ⌝ }
+{
+    let from = p.from;
+    let to = p.to;
+    let job = p.job;
+    let mut form = [0u8; 46];
+    let n = call::finish(job, &input[from..to], &mut form);
+    write_form(&form, n);
+}
+
+// One call.
+fn replay(t: &[i16], b: &mut [i16], counts: Counts, text: &[u8], size: usize, out: &mut [u8]) {
+    let mut buffer = io::buffer();
+    let input: &mut [u8] = &mut buffer;
+    let mut p = Place {
+        job: Counted { code: 0, counts },
+        from: 0,
+        to: 0,
+        at: 0,
+        more: true,
+    };
+    let mut most: u32 = 4294967295;
+    while 0 < most {
+        p = turn(t, b, p, text, size, input, out);
+        most = rest(most, p.more);
+    }
+    end(p, input);
+}
+
+// Number k of a call's five.
+fn number(head: &[u8], k: usize) -> usize
+    requires { ⌜ k < 5 ⌝ }
+{
+    let from = 4 * k;
+    let to = from + 4;
+    if to <= head.len() {
+        words::number(&head[from..to]) as usize
+    } else {
+        0
+    }
+}
+
+// The next call. False at the end.
+fn case(t: &[i16], b: &mut [i16], text: &mut [u8], out: &mut [u8]) -> bool {
+    let mut space = [0u8; 20];
+    let head: &mut [u8] = &mut space;
+    let n = io::read_full(STDIN_FILENO, head);
+    if n < 20 {
+        return false;
+    }
+    let length = lesser(number(head, 0), text.len());
+    let room = lesser(number(head, 2), out.len());
+    let counts = Counts {
+        frames: (number(head, 3) % 4294967296) as u32,
+        lost: (number(head, 4) % 4294967296) as u32,
+    };
+    let size = number(head, 1);
+    state::fresh_state(t, b);
+    let got = io::read_full(STDIN_FILENO, &mut text[0..length]);
+    replay(t, b, counts, &text[0..length], size, &mut out[0..room]);
+    got == length
+}
+
+fn main() {
+    let mut file = [0u8; 3760];
+    let mut t = [0i16; 1880];
+    let mut b = [0i16; 234];
+    io::read_full(STDIN_FILENO, &mut file);
+    call::begin(&file, &mut t, &mut b);
+    let mut text_buffer = io::large_buffer();
+    let mut out_buffer = io::large_buffer();
+    let text: &mut [u8] = &mut text_buffer;
+    let out: &mut [u8] = &mut out_buffer;
+    let mut most: u32 = 4294967295;
+    while 0 < most {
+        let more = case(&t, &mut b, text, out);
+        most = rest(most, more);
+    }
+}
