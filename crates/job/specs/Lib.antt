@@ -6,3 +6,4 @@ pub mod Damage
 pub mod Part
 pub mod Names
 pub mod Back
+pub mod Resume

@@ -1,0 +1,212 @@
+-- A call that is cut anywhere and resumed prints what the whole call prints. `Good` is what a state and an output file have to be for that; a new job is good, a part that is
+-- decoded and written at its place leaves it good, a state file hands it on (`pack-read` of Back), and at the end of the text the last form completes the output. Assumes nothing.
+use mathlib.Core.Path.{_≡_, refl, sym, ap, _∙_}
+use mathlib.Core.Bool.{Bool, true, false, cond, _||_}
+use mathlib.Core.List.{List, [], _∷_, _++_, append-assoc}
+use Prim.Native.Nat.{ℕ, _+_, _-_, _*_, _%_, _^_, _≤_, _<_, min}
+use native.Mathlib.Omega.{arith}
+use native.Mathlib.Nat.{mod-eq-of-lt}
+use borrow.Author.Tests.{eq-eqb, ne-eqb, eqb-true, eqb-false}
+use lib.Dec.{eqb, leb, ltb}
+use lib.IntN.{ℤ, pos}
+use lib.ListN.{length, take, drop, replicate, length-append, length-take, length-drop, take-append-drop}
+use lib.Seq.{take-at, drop-append-le, drop-drop}
+use Rattle.count.specs.declared.Counts.{Counts}
+use Rattle.count.specs.declared.Counted.{Counted}
+use Rattle.count.specs.Count.{count}
+use Rattle.line.specs.Line as Line
+use Rattle.plc.specs.Kinds.{payload-length}
+use Rattle.decoder.specs.Call as Frame
+use Rattle.call.specs.Call.{Job, Step, stop, framed, counted, line-step, printed, fresh-job}
+use Rattle.call.specs.Call as Call
+use Rattle.call.specs.Chunk as Chunk
+use Rattle.call.specs.Laws.{sized}
+use Rattle.call.specs.Whole.{lines-made}
+use Rattle.print.specs.Print.{over}
+use Rattle.job.specs.declared.Saved.{Saved}
+use Rattle.job.specs.Job.{nowhere}
+use Rattle.job.specs.Part.{going, taken, part}
+use Rattle.job.specs.Part as Part
+
+-- ---- a line that is not refused is one frame more
+
+-- the counts after a step that is not refused
+abbrev One : Job → Step → Type 0
+One job s = s .job .code ≡ 0 → s .job .counts .frames ≡ job .counts .frames + 1
+
+one-if : (job : Job) (n : ℕ) (s : Step) → One job s → One job (cond (eqb n 0) s (stop job n))
+unfolding stop
+one-if job n s f = by (eqb n 0) refl
+  where
+    by : (p : Bool) → eqb n 0 ≡ p → One job (cond p s (stop job n))
+    by true e = f
+    by false e = λ h. absurd (eqb-false n 0 e h)
+
+-- Count's answer by its two tests
+abbrev tested : ℕ → Counts → Bool → Bool → Counted
+tested kind c p q =
+    cond p (record { code = 5; counts = c })
+    (cond q (record { code = 10; counts = c }) (record { code = 0; counts = record { frames = c .frames + 1; lost = cond (eqb kind 0) (c .lost) (c .lost + 1) } }))
+
+one-tested : (kind : ℕ) (c : Counts) (p q : Bool) → tested kind c p q .code ≡ 0 → tested kind c p q .counts .frames ≡ c .frames + 1
+one-tested kind c true q e = absurd (omega arith)
+one-tested kind c false true e = absurd (omega arith)
+one-tested kind c false false e = refl
+
+one-count : (kind : ℕ) (c : Counts) → count kind c .code ≡ 0 → count kind c .counts .frames ≡ c .frames + 1
+unfolding count
+one-count kind c = one-tested kind c (ltb 3 kind) (leb 360000 (c .frames) || leb 360000 (c .lost))
+
+one-frame : (job : Job) (next : Counts) (a : Frame.Answer) → next .frames ≡ job .counts .frames + 1 → One job (framed job next a)
+unfolding framed
+one-frame job next (Frame.answer code b samples) h e = rw (eq-eqb code 0 e) h
+
+one-counted : (t : List ℤ) (job : Job) (kind : ℕ) (payload : List ℕ) → One job (counted t job kind payload (count kind (job .counts)))
+unfolding counted stop
+one-counted t job kind payload = by (eqb (count kind (job .counts) .code) 0) refl
+  where
+    F : Frame.Answer
+    F = Frame.frame t (job .block) kind payload (replicate 80 (pos 0))
+
+    by : (p : Bool) → eqb (count kind (job .counts) .code) 0 ≡ p → One job (cond p (framed job (count kind (job .counts) .counts) F) (stop job (count kind (job .counts) .code)))
+    by true e = one-frame job (count kind (job .counts) .counts) F (one-count kind (job .counts) (eqb-true _ _ e))
+    by false e = λ h. absurd (eqb-false _ _ e h)
+
+one-line : (t : List ℤ) (job : Job) (l : List ℕ) → One job (line-step t job l)
+unfolding line-step Call.taken
+one-line t job l = by (Line.line l (replicate 10 0))
+  where
+    by : (a : Line.Answer) → One job (Call.taken t job a)
+    by (Line.answer code kind bytes) = one-if job code _ (one-counted t job kind (take (payload-length kind) bytes))
+
+-- ---- the lines of a part: 327 bytes for each frame more
+
+-- nothing is taken behind a refusal
+part-ended : (t : List ℤ) (job : Job) (room : ℕ) (held l : List ℕ) → (job .code ≡ 0 → ⊥) → Chunk.part t job room held l .job ≡ job
+unfolding Chunk.part Chunk.none Chunk.goes-on
+part-ended t job room held [] h = refl
+part-ended t job room held (b ∷ l) h = rw (ne-eqb (job .code) 0 h)
+
+abbrev Frames : Job → Chunk.Part → Type 0
+Frames job q = q .job .code ≡ 0 → 327 * q .job .counts .frames ≡ 327 * job .counts .frames + length (q .text)
+
+part-frames : (t : List ℤ) (job : Job) (room : ℕ) (held l : List ℕ) → Frames job (Chunk.part t job room held l)
+unfolding Chunk.part Chunk.none Chunk.behind
+part-frames t job room held [] = λ e. omega arith
+part-frames t job room held (b ∷ l) =
+    by (Chunk.goes-on job room) (eqb b 10) (part-frames t (s .job) (room - length (s .text)) [] l) (part-frames t job room (held ++ (b ∷ [])) l)
+  where
+    s : Step
+    s = line-step t job held
+
+    after : Frames (s .job) (Chunk.part t (s .job) (room - length (s .text)) [] l) → Frames job (Chunk.behind (s .text) (Chunk.part t (s .job) (room - length (s .text)) [] l))
+    after f e = go (eqb (s .job .code) 0) refl
+      where
+        go : (p : Bool) → eqb (s .job .code) 0 ≡ p → 327 * Chunk.part t (s .job) (room - length (s .text)) [] l .job .counts .frames ≡ 327 * job .counts .frames + length (s .text ++ Chunk.part t (s .job) (room - length (s .text)) [] l .text)
+        go true z =
+            let c : s .job .code ≡ 0 = eqb-true _ _ z in
+            omega (arith, length-append (s .text) (Chunk.part t (s .job) (room - length (s .text)) [] l .text), f e, one-line t job held c, sized t job held .whole c)
+        go false z =
+            absurd (eqb-false _ _ z (ap (λ (j : Job). j .code) (sym (part-ended t (s .job) (room - length (s .text)) [] l (eqb-false _ _ z))) ∙ e))
+
+    by : (p q : Bool) → Frames (s .job) (Chunk.part t (s .job) (room - length (s .text)) [] l) → Frames job (Chunk.part t job room (held ++ (b ∷ [])) l)
+        → Frames job (cond p (cond q (Chunk.behind (s .text) (Chunk.part t (s .job) (room - length (s .text)) [] l)) (Chunk.part t job room (held ++ (b ∷ [])) l)) (Chunk.none job (held ++ (b ∷ l))))
+    by true true f g = λ e. after f e
+    by true false f g = λ e. g e
+    by false q f g = λ e. omega arith
+
+-- ---- a job that goes on to the whole call's output
+
+-- a file after bytes were written over its bytes from place o on
+unfoldable pub put-at : ℕ → List ℕ → List ℕ → List ℕ
+put-at o v out = take o out ++ (v ++ drop (o + length v) out)
+
+-- the forms of the frames that are done stand in the output, and with what the rest of the text prints from this state they are all that is to be printed
+pub record Good (t : List ℤ) (text all : List ℕ) (b : List ℤ) (p : Saved) (out : List ℕ) : Type 0 where
+  pub reach : 327 * p .counts .frames ≤ length out
+  pub made : all ≡ take (327 * p .counts .frames) out ++ printed t (going b p) [] (drop (p .at) text)
+
+-- a new job, whatever stands in the output
+pub good-fresh : (t : List ℤ) (text out : List ℕ) → Good t text (printed t (fresh-job t) [] text) (fresh-job t .block) nowhere out
+unfolding going fresh-job nowhere
+good-fresh t text out = record { reach = omega arith; made = refl }
+
+same-job : (j : Job) → j .code ≡ 0 → j ≡ record { block = j .block; counts = j .counts; code = 0 }
+same-job j e = λ i. record { block = j .block; counts = j .counts; code = e i }
+
+put-front : (o : ℕ) (v out : List ℕ) → o ≤ length out → take (o + length v) (put-at o v out) ≡ take o out ++ v
+unfolding put-at
+put-front o v out h =
+    let n : length (take o out ++ v) ≡ o + length v = simp (length-append, length-take) (omega arith) in
+    rw (← append-assoc (take o out) v (drop (o + length v) out)) (take-at (take o out ++ v) _ (o + length v) n)
+
+put-reach : (o : ℕ) (v out : List ℕ) → o ≤ length out → o + length v ≤ length (put-at o v out)
+unfolding put-at
+put-reach o v out h = simp (length-append, length-take, length-drop) (omega arith)
+
+-- a part that is decoded, and written at its place: n bytes of the text were read
+module _ (t : List ℤ) (text all : List ℕ) (b : List ℤ) (p : Saved) (out : List ℕ) (good : Good t text all b p out)
+    (most n : ℕ) (forms : List ℕ) (h : p .at + n ≤ length text) (m : length text < 2 ^ 64) where
+  abbrev input : List ℕ
+  input = take n (drop (p .at) text)
+
+  abbrev rest : List ℕ
+  rest = drop n (drop (p .at) text)
+
+  abbrev mid : List ℕ
+  mid = take (min (327 * most) (length forms)) forms
+
+  abbrev Q : Chunk.Part
+  Q = Chunk.part t (going b p) (min (327 * most) (length forms)) [] input
+
+  used : ℕ
+  used = length input - length (Q .unused)
+
+  mid-length : length mid ≡ min (327 * most) (length forms)
+  mid-length = rw length-take (omega arith)
+
+  lines-is : Chunk.answer (Q .job) used (length (Q .text)) (over (Q .text) mid) ≡ Chunk.lines t (going b p) input mid
+  unfolding Chunk.lines Chunk.given used
+  lines-is = rw mid-length
+
+  -- what is printed of the text from the place on
+  from-here : printed t (going b p) [] (drop (p .at) text) ≡ Q .text ++ printed t (Q .job) [] (drop (p .at + used) text)
+  unfolding over used
+  from-here =
+      let l : length input ≡ n = simp (length-take, length-drop) (omega arith) in
+      let u : used ≤ length input = omega arith in
+      ap (λ (x : List ℕ). printed t (going b p) [] x) (sym (take-append-drop n (drop (p .at) text)))
+      ∙ lines-made t (going b p) input mid lines-is rest
+      ∙ rw (take-at (Q .text) (drop (length (Q .text)) mid) (length (Q .text)) refl, ← drop-append-le used input rest u, take-append-drop n (drop (p .at) text), drop-drop used (p .at) text)
+
+  after : Q .job .code ≡ 0 → Good t text all (Q .job .block) (record { counts = Q .job .counts; at = p .at + used }) (put-at (327 * p .counts .frames) (Q .text) out)
+  unfolding going
+  after c =
+      let o : ℕ = 327 * p .counts .frames in
+      let k : 327 * Q .job .counts .frames ≡ o + length (Q .text) = part-frames t (going b p) (min (327 * most) (length forms)) [] input c in
+      record {
+        reach = rw k (put-reach o (Q .text) out (good .reach));
+        made =
+            good .made
+            ∙ ap (λ (x : List ℕ). take o out ++ x) from-here
+            ∙ sym (append-assoc (take o out) (Q .text) _)
+            ∙ ap (λ (j : Job). (take o out ++ Q .text) ++ printed t j [] (drop (p .at + used) text)) (same-job (Q .job) c)
+            ∙ ap (λ (x : List ℕ). x ++ printed t (record { block = Q .job .block; counts = Q .job .counts; code = 0 }) [] (drop (p .at + used) text))
+            (sym (ap (λ (i : ℕ). take i (put-at o (Q .text) out)) k ∙ put-front o (Q .text) out (good .reach)));
+      }
+
+  in-range : (p .at + used) % 2 ^ 64 ≡ p .at + used
+  unfolding used
+  in-range = mod-eq-of-lt (let l : length input ≡ n = simp (length-take, length-drop) (omega arith) in omega arith)
+
+  pub good-part : {job : Job} {at written left : ℕ} {forms′ : List ℕ} → Part.answer job at written left forms′ ≡ part t b p most input forms → job .code ≡ 0
+      → Good t text all (job .block) (record { counts = job .counts; at = at }) (put-at (327 * p .counts .frames) (take written forms′) out)
+  unfolding part taken over used
+  good-part {job} {at} {written} {left} {forms′} e z =
+      let j : job ≡ Q .job = cc in
+      let a : at ≡ (p .at + used) % 2 ^ 64 = cc in
+      let w : written ≡ length (Q .text) = cc in
+      let f : forms′ ≡ Q .text ++ drop (length (Q .text)) forms = cc in
+      let v : take written forms′ ≡ Q .text = rw (w, f) (take-at (Q .text) (drop (length (Q .text)) forms) (length (Q .text)) refl) in
+      let c : Q .job .code ≡ 0 = ap (λ (x : Job). x .code) (sym j) ∙ z in
+      rw (v, a, in-range, j) (after c)
