@@ -17,11 +17,11 @@ use Rattle.count.specs.Count.{count}
 use Rattle.line.specs.Line as Line
 use Rattle.plc.specs.Kinds.{payload-length}
 use Rattle.decoder.specs.Call as Frame
-use Rattle.call.specs.Call.{Job, Step, stop, framed, counted, line-step, printed, fresh-job}
+use Rattle.call.specs.Call.{Job, Step, stop, framed, counted, line-step, last-form, printed, fresh-job}
 use Rattle.call.specs.Call as Call
 use Rattle.call.specs.Chunk as Chunk
 use Rattle.call.specs.Laws.{sized}
-use Rattle.call.specs.Whole.{lines-made}
+use Rattle.call.specs.Whole.{printed-ended, again, lines-made}
 use Rattle.print.specs.Print.{over}
 use Rattle.job.specs.declared.Saved.{Saved}
 use Rattle.job.specs.Job.{nowhere}
@@ -30,17 +30,14 @@ use Rattle.job.specs.Part as Part
 
 -- ---- a line that is not refused is one frame more
 
--- the counts after a step that is not refused
-abbrev One : Job → Step → Type 0
-One job s = s .job .code ≡ 0 → s .job .counts .frames ≡ job .counts .frames + 1
+-- the frames after a line
+record Grown (job : Job) (s : Step) : Type 0 where
+  more : s .job .code ≡ 0 → s .job .counts .frames ≡ job .counts .frames + 1
+  same : (s .job .code ≡ 0 → ⊥) → s .job .counts .frames ≡ job .counts .frames
 
-one-if : (job : Job) (n : ℕ) (s : Step) → One job s → One job (cond (eqb n 0) s (stop job n))
+grown-stop : (job : Job) (n : ℕ) → (n ≡ 0 → ⊥) → Grown job (stop job n)
 unfolding stop
-one-if job n s f = by (eqb n 0) refl
-  where
-    by : (p : Bool) → eqb n 0 ≡ p → One job (cond p s (stop job n))
-    by true e = f
-    by false e = λ h. absurd (eqb-false n 0 e h)
+grown-stop job n h = record { more = λ e. absurd (h e); same = λ e. refl }
 
 -- Count's answer by its two tests
 abbrev tested : ℕ → Counts → Bool → Bool → Counted
@@ -57,63 +54,59 @@ one-count : (kind : ℕ) (c : Counts) → count kind c .code ≡ 0 → count kin
 unfolding count
 one-count kind c = one-tested kind c (ltb 3 kind) (leb 360000 (c .frames) || leb 360000 (c .lost))
 
-one-frame : (job : Job) (next : Counts) (a : Frame.Answer) → next .frames ≡ job .counts .frames + 1 → One job (framed job next a)
+grown-frame : (job : Job) (next : Counts) (a : Frame.Answer) → next .frames ≡ job .counts .frames + 1 → Grown job (framed job next a)
 unfolding framed
-one-frame job next (Frame.answer code b samples) h e = rw (eq-eqb code 0 e) h
+grown-frame job next (Frame.answer code b samples) h = record { more = λ e. rw (eq-eqb code 0 e) h; same = λ e. rw (ne-eqb code 0 e) }
 
-one-counted : (t : List ℤ) (job : Job) (kind : ℕ) (payload : List ℕ) → One job (counted t job kind payload (count kind (job .counts)))
-unfolding counted stop
-one-counted t job kind payload = by (eqb (count kind (job .counts) .code) 0) refl
+grown-counted : (t : List ℤ) (job : Job) (kind : ℕ) (payload : List ℕ) → Grown job (counted t job kind payload (count kind (job .counts)))
+unfolding counted
+grown-counted t job kind payload = by (eqb (count kind (job .counts) .code) 0) refl
   where
     F : Frame.Answer
     F = Frame.frame t (job .block) kind payload (replicate 80 (pos 0))
 
-    by : (p : Bool) → eqb (count kind (job .counts) .code) 0 ≡ p → One job (cond p (framed job (count kind (job .counts) .counts) F) (stop job (count kind (job .counts) .code)))
-    by true e = one-frame job (count kind (job .counts) .counts) F (one-count kind (job .counts) (eqb-true _ _ e))
-    by false e = λ h. absurd (eqb-false _ _ e h)
+    by : (p : Bool) → eqb (count kind (job .counts) .code) 0 ≡ p → Grown job (cond p (framed job (count kind (job .counts) .counts) F) (stop job (count kind (job .counts) .code)))
+    by true e = grown-frame job (count kind (job .counts) .counts) F (one-count kind (job .counts) (eqb-true _ _ e))
+    by false e = grown-stop job (count kind (job .counts) .code) (eqb-false _ _ e)
 
-one-line : (t : List ℤ) (job : Job) (l : List ℕ) → One job (line-step t job l)
+grown-line : (t : List ℤ) (job : Job) (l : List ℕ) → Grown job (line-step t job l)
 unfolding line-step Call.taken
-one-line t job l = by (Line.line l (replicate 10 0))
+grown-line t job l = by (Line.line l (replicate 10 0))
   where
-    by : (a : Line.Answer) → One job (Call.taken t job a)
-    by (Line.answer code kind bytes) = one-if job code _ (one-counted t job kind (take (payload-length kind) bytes))
+    pick : (p : Bool) (n : ℕ) (s : Step) → eqb n 0 ≡ p → Grown job s → Grown job (cond p s (stop job n))
+    pick true n s e f = f
+    pick false n s e f = grown-stop job n (eqb-false _ _ e)
+
+    by : (a : Line.Answer) → Grown job (Call.taken t job a)
+    by (Line.answer code kind bytes) = pick (eqb code 0) code _ refl (grown-counted t job kind (take (payload-length kind) bytes))
 
 -- ---- the lines of a part: 327 bytes for each frame more
 
--- nothing is taken behind a refusal
-part-ended : (t : List ℤ) (job : Job) (room : ℕ) (held l : List ℕ) → (job .code ≡ 0 → ⊥) → Chunk.part t job room held l .job ≡ job
-unfolding Chunk.part Chunk.none Chunk.goes-on
-part-ended t job room held [] h = refl
-part-ended t job room held (b ∷ l) h = rw (ne-eqb (job .code) 0 h)
-
 abbrev Frames : Job → Chunk.Part → Type 0
-Frames job q = q .job .code ≡ 0 → 327 * q .job .counts .frames ≡ 327 * job .counts .frames + length (q .text)
+Frames job q = 327 * q .job .counts .frames ≡ 327 * job .counts .frames + length (q .text)
 
 part-frames : (t : List ℤ) (job : Job) (room : ℕ) (held l : List ℕ) → Frames job (Chunk.part t job room held l)
 unfolding Chunk.part Chunk.none Chunk.behind
-part-frames t job room held [] = λ e. omega arith
+part-frames t job room held [] = omega arith
 part-frames t job room held (b ∷ l) =
     by (Chunk.goes-on job room) (eqb b 10) (part-frames t (s .job) (room - length (s .text)) [] l) (part-frames t job room (held ++ (b ∷ [])) l)
   where
     s : Step
     s = line-step t job held
 
-    after : Frames (s .job) (Chunk.part t (s .job) (room - length (s .text)) [] l) → Frames job (Chunk.behind (s .text) (Chunk.part t (s .job) (room - length (s .text)) [] l))
-    after f e = go (eqb (s .job .code) 0) refl
-      where
-        go : (p : Bool) → eqb (s .job .code) 0 ≡ p → 327 * Chunk.part t (s .job) (room - length (s .text)) [] l .job .counts .frames ≡ 327 * job .counts .frames + length (s .text ++ Chunk.part t (s .job) (room - length (s .text)) [] l .text)
-        go true z =
-            let c : s .job .code ≡ 0 = eqb-true _ _ z in
-            omega (arith, length-append (s .text) (Chunk.part t (s .job) (room - length (s .text)) [] l .text), f e, one-line t job held c, sized t job held .whole c)
-        go false z =
-            absurd (eqb-false _ _ z (ap (λ (j : Job). j .code) (sym (part-ended t (s .job) (room - length (s .text)) [] l (eqb-false _ _ z))) ∙ e))
+    line : (p : Bool) → eqb (s .job .code) 0 ≡ p → 327 * s .job .counts .frames ≡ 327 * job .counts .frames + length (s .text)
+    line true z =
+        let c : s .job .code ≡ 0 = eqb-true _ _ z in
+        omega (arith, grown-line t job held .more c, sized t job held .whole c)
+    line false z =
+        let n : length (s .text) ≡ 0 = ap length (sized t job held .silent (eqb-false _ _ z)) in
+        omega (arith, grown-line t job held .same (eqb-false _ _ z))
 
     by : (p q : Bool) → Frames (s .job) (Chunk.part t (s .job) (room - length (s .text)) [] l) → Frames job (Chunk.part t job room (held ++ (b ∷ [])) l)
         → Frames job (cond p (cond q (Chunk.behind (s .text) (Chunk.part t (s .job) (room - length (s .text)) [] l)) (Chunk.part t job room (held ++ (b ∷ [])) l)) (Chunk.none job (held ++ (b ∷ l))))
-    by true true f g = λ e. after f e
-    by true false f g = λ e. g e
-    by false q f g = λ e. omega arith
+    by true true f g = omega (arith, length-append (s .text) (Chunk.part t (s .job) (room - length (s .text)) [] l .text), line (eqb (s .job .code) 0) refl)
+    by true false f g = g
+    by false q f g = omega arith
 
 -- ---- a job that goes on to the whole call's output
 
@@ -183,7 +176,7 @@ module _ (t : List ℤ) (text all : List ℕ) (b : List ℤ) (p : Saved) (out : 
   unfolding going
   after c =
       let o : ℕ = 327 * p .counts .frames in
-      let k : 327 * Q .job .counts .frames ≡ o + length (Q .text) = part-frames t (going b p) (min (327 * most) (length forms)) [] input c in
+      let k : 327 * Q .job .counts .frames ≡ o + length (Q .text) = part-frames t (going b p) (min (327 * most) (length forms)) [] input in
       record {
         reach = rw k (put-reach o (Q .text) out (good .reach));
         made =
@@ -194,6 +187,22 @@ module _ (t : List ℤ) (text all : List ℕ) (b : List ℤ) (p : Saved) (out : 
             ∙ ap (λ (x : List ℕ). x ++ printed t (record { block = Q .job .block; counts = Q .job .counts; code = 0 }) [] (drop (p .at + used) text))
             (sym (ap (λ (i : ℕ). take i (put-at o (Q .text) out)) k ∙ put-front o (Q .text) out (good .reach)));
       }
+
+  stopped : (Q .job .code ≡ 0 → ⊥)
+      → let f : List ℕ = last-form (Q .job .counts) (Q .job .code) [] in
+      let o : ℕ = 327 * Q .job .counts .frames in
+      take (o + length f) (put-at o f (put-at (327 * p .counts .frames) (Q .text) out)) ≡ all
+  unfolding going
+  stopped c =
+    let o : ℕ = 327 * p .counts .frames in
+    let k : 327 * Q .job .counts .frames ≡ o + length (Q .text) = part-frames t (going b p) (min (327 * most) (length forms)) [] input in
+    let f : List ℕ = last-form (Q .job .counts) (Q .job .code) [] in
+    let r : 327 * Q .job .counts .frames ≤ length (put-at o (Q .text) out) = rw k (put-reach o (Q .text) out (good .reach)) in
+    let u : take (327 * Q .job .counts .frames) (put-at o (Q .text) out) ≡ take o out ++ Q .text = ap (λ (i : ℕ). take i (put-at o (Q .text) out)) k ∙ put-front o (Q .text) out (good .reach) in
+    put-front (327 * Q .job .counts .frames) f (put-at o (Q .text) out) r
+    ∙ ap (λ (x : List ℕ). x ++ f) u
+    ∙ append-assoc (take o out) (Q .text) f
+    ∙ sym (good .made ∙ ap (λ (x : List ℕ). take o out ++ x) (from-here ∙ ap (λ (x : List ℕ). Q .text ++ x) (printed-ended t (Q .job) [] (drop (p .at + used) text) c)))
 
   in-range : (p .at + used) % 2 ^ 64 ≡ p .at + used
   unfolding used
@@ -210,3 +219,28 @@ module _ (t : List ℤ) (text all : List ℕ) (b : List ℤ) (p : Saved) (out : 
       let v : take written forms′ ≡ Q .text = rw (w, f) (take-at (Q .text) (drop (length (Q .text)) forms) (length (Q .text)) refl) in
       let c : Q .job .code ≡ 0 = ap (λ (x : Job). x .code) (sym j) ∙ z in
       rw (v, a, in-range, j) (after c)
+
+  -- a part in which a line is refused: its forms, and the refusal behind them, are all that is printed
+  pub refused-part : {job : Job} {at written left : ℕ} {forms′ : List ℕ} → Part.answer job at written left forms′ ≡ part t b p most input forms → (job .code ≡ 0 → ⊥)
+      → let f : List ℕ = last-form (job .counts) (job .code) [] in
+      let o : ℕ = 327 * job .counts .frames in
+      take (o + length f) (put-at o f (put-at (327 * p .counts .frames) (take written forms′) out)) ≡ all
+  unfolding part taken over used
+  refused-part {job} {at} {written} {left} {forms′} e z =
+    let j : job ≡ Q .job = cc in
+    let w : written ≡ length (Q .text) = cc in
+    let g : forms′ ≡ Q .text ++ drop (length (Q .text)) forms = cc in
+    let v : take written forms′ ≡ Q .text = rw (w, g) (take-at (Q .text) (drop (length (Q .text)) forms) (length (Q .text)) refl) in
+    let c : Q .job .code ≡ 0 → ⊥ = λ c. z (ap (λ (x : Job). x .code) j ∙ c) in
+    rw (v, j) (stopped c)
+
+-- the text ends with these bytes behind its last line feed: the last form completes the output
+pub good-end : (t : List ℤ) (text all : List ℕ) (b : List ℤ) (p : Saved) (out : List ℕ) → Good t text all b p out
+    → Chunk.to-feed (drop (p .at) text) ≡ length (drop (p .at) text)
+    → let f : List ℕ = last-form (p .counts) 0 (drop (p .at) text) in
+    let o : ℕ = 327 * p .counts .frames in
+    take (o + length f) (put-at o f out) ≡ all
+unfolding going printed
+good-end t text all b p out good h =
+    put-front (327 * p .counts .frames) (last-form (p .counts) 0 (drop (p .at) text)) out (good .reach)
+    ∙ sym (good .made ∙ ap (λ (x : List ℕ). take (327 * p .counts .frames) out ++ x) (ap (λ (x : List ℕ). printed t (going b p) [] x) (sym (append-nil (drop (p .at) text))) ∙ sym (again t (going b p) [] (drop (p .at) text) [] h)))
