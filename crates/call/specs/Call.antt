@@ -1,5 +1,5 @@
 -- A call as text (01, "The call text and the program"): what is printed for it, from the table block and its bytes. One line is the operations Line, Count and Frame, in this order.
-use mathlib.Core.Bool.{Bool, cond}
+use mathlib.Core.Bool.{cond}
 use mathlib.Core.List.{List, [], _∷_, _++_}
 use Prim.Native.Nat.{ℕ, _+_, min}
 use lib.Dec.{eqb}

@@ -1,7 +1,7 @@
 -- A part of a call's text: whole lines are taken out of it, while what they print fits into the room lent for it. `whole` of Whole says that parts make up `printed` of the whole text.
 use mathlib.Core.Bool.{Bool, cond, _&&_}
 use mathlib.Core.List.{List, [], _∷_, _++_}
-use Prim.Native.Nat.{ℕ, zero, suc, _-_}
+use Prim.Native.Nat.{ℕ, suc, _-_}
 use lib.Dec.{eqb, leb, ltb}
 use lib.IntN.{ℤ}
 use lib.ListN.{length}

@@ -6,11 +6,11 @@ use Prim.Native.Nat.{ℕ, zero, suc, _+_, _-_, _*_, _/_, _≤_, _<_, min}
 use native.Mathlib.Omega.{arith}
 use native.Mathlib.Numerals.{add-one}
 use native.Mathlib.Nat.{sub-zero, zero-add, add-comm}
-use lib.Dec.{eqb, leb, ltb}
+use lib.Dec.{eqb}
 use lib.IntN.{ℤ, pos}
 use lib.ListN.{length, getD, take, drop, set, replicate, drop-of-length-le, length-append, length-take, length-drop, take-append-drop}
-use lib.Seq.{drop-cons, drop-length, take-length, take-all, drop-drop, append-snoc, getD-drop, getD-take, paste, slice, length-paste, drop-paste, take-paste}
-use borrow.Author.Tests.{lt-ltb, le-ltb, le-leb, lt-leb, eq-eqb, ne-eqb, eqb-true, eqb-false, leb-true, leb-false}
+use lib.Seq.{drop-cons, take-length, take-all, drop-drop, append-snoc, getD-drop, getD-take, paste, slice, length-paste, drop-paste, take-paste}
+use borrow.Author.Tests.{lt-ltb, le-ltb, le-leb, lt-leb, eq-eqb, ne-eqb, eqb-false}
 use Rattle.count.specs.declared.Counts.{Counts}
 use Rattle.count.specs.declared.Counted.{Counted}
 use Rattle.count.specs.Count.{count}
@@ -23,7 +23,7 @@ use Rattle.state.specs.State as State
 use Rattle.words.specs.Words as Words
 use Rattle.words.specs.Laws as WordsLaws
 use Rattle.call.specs.Call.{Job, Step, stop, framed, counted, taken, line-step, line-number, last-form, printed}
-use Rattle.call.specs.Chunk.{Part, none, behind, goes-on, part, kept, left, Answer, answer, given, lines, to-feed, overlong, Begun, begun, with-state, begin}
+use Rattle.call.specs.Chunk.{Part, none, behind, goes-on, part, kept, left, Answer, answer, given, lines, to-feed, overlong, begun, with-state, begin}
 
 -- ---- one line
 

@@ -3,3 +3,4 @@ pub mod Call
 pub mod Chunk
 pub mod Laws
 pub mod Whole
+pub mod Codes

@@ -2,13 +2,13 @@
 use mathlib.Core.Path.{_≡_, refl, ap, sym, _∙_}
 use mathlib.Core.Bool.{Bool, true, false, cond, _&&_}
 use mathlib.Core.List.{List, [], _∷_, _++_, append-assoc, append-nil}
-use Prim.Native.Nat.{ℕ, zero, suc, _+_, _-_, _*_, _≤_, _<_}
+use Prim.Native.Nat.{ℕ, suc, _+_, _-_, _≤_, _<_}
 use native.Mathlib.Omega.{arith}
 use native.Mathlib.Nat.{sub-self}
 use lib.Dec.{eqb, leb, ltb}
 use lib.IntN.{ℤ}
-use lib.ListN.{length, take, drop, replicate, length-append, take-append-drop, length-take}
-use lib.Seq.{append-snoc, take-append-seam, drop-append-add, drop-length}
+use lib.ListN.{length, take, drop, replicate, length-append, take-append-drop}
+use lib.Seq.{append-snoc, take-append-seam, drop-append-add}
 use borrow.Author.Tests.{eq-eqb, ne-eqb, eqb-true, eqb-false, ltb-true}
 use Rattle.line.specs.Line as Line
 use Rattle.line.specs.Laws.{other-length}
@@ -17,7 +17,7 @@ use Rattle.state.specs.State as State
 use Rattle.tables.specs.Layout.{table-check}
 use Rattle.words.specs.Words.{words}
 use Rattle.call.specs.Call.{Job, Step, stop, line-step, line-number, last-form, printed, fresh-job}
-use Rattle.call.specs.Chunk.{Part, none, behind, goes-on, part, Answer, answer, given, lines, to-feed, overlong, begun, with-state, begin}
+use Rattle.call.specs.Chunk.{Part, none, behind, goes-on, part, answer, given, lines, to-feed, overlong, begun, with-state, begin}
 use Rattle.call.specs.Laws.{not-line}
 
 -- ---- what is done with a call, in any order, and what is then held

@@ -1,6 +1,5 @@
 // A call as text (01, "The call text and the program"): lines to printed samples, a part of the text at a time, in lent memory.
 ghost use mathlib.Core.Path.{_≡_};
-ghost use mathlib.Core.List.{_++_};
 ghost use Prim.Native.Nat.{_+_, _≤_, min};
 ghost use lib.ListN.{length, drop};
 ghost use lib.Seq.{paste, slice};

@@ -1,6 +1,6 @@
 -- `call::line_step` meets its contract: each way out is what the operations' answers make of the line.
 use native.Mathlib.Omega.{arith}
-use mathlib.Core.Path.{refl, sym}
+use mathlib.Core.Path.{refl}
 use denote.Ref.{now}
 use borrow.Author.Needs.{needs}
 use Rattle.call.specs.Chunk.{kept}

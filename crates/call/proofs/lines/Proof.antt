@@ -1,5 +1,4 @@
 -- `call::lines` meets its contract: the lines taken, and the lines that the definition takes from what is behind them, are those of the whole.
-use mathlib.Core.Path.{_≡_, sym}
 use Prim.Native.Nat.{_-_}
 use native.Mathlib.Omega.{arith}
 use lib.ListN.{length}

@@ -1,0 +1,64 @@
+-- With an accepted table block and an accepted state a line is refused with 9 or 10 alone (01, "The call text and the program"): Frame never refuses it. Assumes nothing.
+use mathlib.Core.Path.{_≡_, refl}
+use mathlib.Core.Bool.{Bool, true, false, cond, _||_}
+use mathlib.Core.List.{List, _++_}
+use Prim.Native.Nat.{ℕ, _+_, _-_, _≤_}
+use native.Mathlib.Omega.{arith}
+use lib.Dec.{eqb, leb}
+use lib.IntN.{ℤ}
+use lib.ListN.{length, take, drop, replicate, length-append, length-take, length-drop}
+use borrow.Author.Tests.{le-ltb, eq-eqb}
+use Rattle.tables.specs.Layout.{table-check}
+use Rattle.state.specs.State.{state-check}
+use Rattle.plc.specs.Kinds.{payload-length}
+use Rattle.decoder.specs.Call as Frame
+use Rattle.line.specs.Line as Line
+use Rattle.line.specs.Laws.{length-bytes}
+use Rattle.count.specs.declared.Counts.{Counts}
+use Rattle.count.specs.Count.{count}
+use Rattle.call.specs.Call.{Job, stop, framed, counted, taken, line-step}
+use Rattle.call.specs.Laws.{payload-few}
+
+-- the numbers that a line may give
+unfoldable pub of-line : ℕ → Bool
+of-line n = eqb n 0 || (eqb n 9 || eqb n 10)
+
+not-refused : (t b : List ℤ) (k : ℕ) (payload : List ℕ) → table-check t ≡ 0 → state-check b ≡ 0 → k ≤ 3 → length payload ≡ payload-length k → Frame.refusal t b k payload 80 ≡ 0
+unfolding Frame.refusal Frame.input-check
+not-refused t b k payload ht hb h e = rw (ht, hb, le-ltb 3 k h, eq-eqb (length payload) (payload-length k) e)
+
+of-count : (t : List ℤ) (job : Job) (k : ℕ) (payload : List ℕ) → k ≤ 3 → Frame.refusal t (job .block) k payload 80 ≡ 0
+    → of-line (counted t job k payload (count k (job .counts)) .job .code) ≡ true
+unfolding of-line counted count framed stop Frame.frame
+of-count t job k payload h e = rw (le-ltb 3 k h) (by (leb 360000 (job .counts .frames) || leb 360000 (job .counts .lost)) _)
+  where
+    by : (p : Bool) (next : Counts) → of-line (counted t job k payload (cond p (record { code = 10; counts = job .counts }) (record { code = 0; counts = next })) .job .code) ≡ true
+    by true next = refl
+    by false next = rw e
+
+-- a line that is taken has as many bytes as its kind
+payload-is : (k : ℕ) (l : List ℕ) → length (take (payload-length k) (Line.payload k l ++ drop (Line.size k) (replicate 10 0))) ≡ payload-length k
+unfolding Line.payload
+payload-is k l =
+    let d : List ℕ = drop (Line.size k) (replicate 10 0) in
+    let n : length (Line.bytes (Line.size k) (drop (length (Line.opening k)) l)) ≡ Line.size k = length-bytes (Line.size k) (drop (length (Line.opening k)) l) in
+    let m : length d ≡ 10 - Line.size k = length-drop (Line.size k) (replicate 10 0) in
+    let few : payload-length k ≤ 10 = payload-few k in
+    rw (length-take, length-append, n, m) (omega arith)
+
+pub line-codes : (t : List ℤ) (job : Job) (l : List ℕ) → table-check t ≡ 0 → state-check (job .block) ≡ 0 → of-line (line-step t job l .job .code) ≡ true
+unfolding of-line line-step taken stop Line.line Line.took
+line-codes t job l ht hb = by (Line.is 0 l) (Line.is 1 l) (Line.is 2 l) (Line.is 3 l)
+  where
+    ten : List ℕ
+    ten = replicate 10 0
+
+    took : (k : ℕ) → k ≤ 3 → of-line (taken t job (Line.took k l ten) .job .code) ≡ true
+    took k h = of-count t job k _ h (not-refused t (job .block) k _ ht hb h (payload-is k l))
+
+    by : (a b c d : Bool) → of-line (taken t job (cond a (Line.took 0 l ten) (cond b (Line.took 1 l ten) (cond c (Line.took 2 l ten) (cond d (Line.took 3 l ten) (Line.answer 9 0 ten))))) .job .code) ≡ true
+    by true b c d = took 0 (omega arith)
+    by false true c d = took 1 (omega arith)
+    by false false true d = took 2 (omega arith)
+    by false false false true = took 3 (omega arith)
+    by false false false false = refl
