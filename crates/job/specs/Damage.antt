@@ -174,7 +174,7 @@ module _ (f : List ℕ) (k v : ℕ) (a : Bytes f) (n : length f ≡ 488) (h : k 
   unfolding sum-fits
   below i =
       rw (take-set-lt 484 f k v i, drop-set-lt 484 f k v i)
-      (ne-eqb _ _ (λ e. d (crc32-set (take 484 f) k v (bytes-take 484 f a) (rw length-take (omega arith)) j (sym e ∙ sum) ∙ getD-take 484 f k 0 i)))
+      (ne-eqb (number (take 4 (drop 484 f))) (crc32 (set (take 484 f) k v)) (λ e. d (crc32-set (take 484 f) k v (bytes-take 484 f a) (rw length-take (omega arith)) j (sym e ∙ sum) ∙ getD-take 484 f k 0 i)))
 
   -- in the sum
   above : 484 ≤ k → sum-fits (set f k v) ≡ false
@@ -185,7 +185,7 @@ module _ (f : List ℕ) (k v : ℕ) (a : Bytes f) (n : length f ≡ 488) (h : k 
       let t : take 4 (set (drop 484 f) (k - 484) v) ≡ set (drop 484 f) (k - 484) v = take-all 4 _ (simp (length-set, length-drop) (omega arith)) in
       let u : take 4 (drop 484 f) ≡ drop 484 f = take-all 4 _ (simp length-drop (omega arith)) in
       rw (take-set-le 484 f k v i, g, t)
-      (ne-eqb _ _ (λ e. d (number-set (drop 484 f) (k - 484) v (bytes-drop 484 f a) (simp length-drop (omega arith)) j (e ∙ sym sum ∙ ap number u) ∙ getD-drop 484 f (k - 484) 0 ∙ ap (λ (i : ℕ). getD f i 0) m)))
+      (ne-eqb (number (set (drop 484 f) (k - 484) v)) (crc32 (take 484 f)) (λ e. d (number-set (drop 484 f) (k - 484) v (bytes-drop 484 f a) (simp length-drop (omega arith)) j (e ∙ sym sum ∙ ap number u) ∙ getD-drop 484 f (k - 484) 0 ∙ ap (λ (i : ℕ). getD f i 0) m)))
 
   -- 22, whichever byte it is
   pub damaged : check (set f k v) ≡ 22

@@ -2,7 +2,7 @@
 -- decoded and written at its place leaves it good, a state file hands it on (`pack-read` of Back), and at the end of the text the last form completes the output. Assumes nothing.
 use mathlib.Core.Path.{_≡_, refl, sym, ap, _∙_}
 use mathlib.Core.Bool.{Bool, true, false, cond, _||_}
-use mathlib.Core.List.{List, [], _∷_, _++_, append-assoc}
+use mathlib.Core.List.{List, [], _∷_, _++_, append-assoc, append-nil}
 use Prim.Native.Nat.{ℕ, _+_, _-_, _*_, _%_, _^_, _≤_, _<_, min}
 use native.Mathlib.Omega.{arith}
 use native.Mathlib.Nat.{mod-eq-of-lt}
@@ -124,6 +124,11 @@ pub good-fresh : (t : List ℤ) (text out : List ℕ) → Good t text (printed t
 unfolding going fresh-job nowhere
 good-fresh t text out = record { reach = omega arith; made = refl }
 
+-- whatever is written behind the place, as by a program that was stopped before it saved its next state
+pub good-behind : (t : List ℤ) (text all : List ℕ) (b : List ℤ) (p : Saved) (out out′ : List ℕ) → Good t text all b p out → 327 * p .counts .frames ≤ length out′
+    → take (327 * p .counts .frames) out′ ≡ take (327 * p .counts .frames) out → Good t text all b p out′
+good-behind t text all b p out out′ good h e = record { reach = h; made = good .made ∙ rw e }
+
 same-job : (j : Job) → j .code ≡ 0 → j ≡ record { block = j .block; counts = j .counts; code = 0 }
 same-job j e = λ i. record { block = j .block; counts = j .counts; code = e i }
 
@@ -194,15 +199,15 @@ module _ (t : List ℤ) (text all : List ℕ) (b : List ℤ) (p : Saved) (out : 
       take (o + length f) (put-at o f (put-at (327 * p .counts .frames) (Q .text) out)) ≡ all
   unfolding going
   stopped c =
-    let o : ℕ = 327 * p .counts .frames in
-    let k : 327 * Q .job .counts .frames ≡ o + length (Q .text) = part-frames t (going b p) (min (327 * most) (length forms)) [] input in
-    let f : List ℕ = last-form (Q .job .counts) (Q .job .code) [] in
-    let r : 327 * Q .job .counts .frames ≤ length (put-at o (Q .text) out) = rw k (put-reach o (Q .text) out (good .reach)) in
-    let u : take (327 * Q .job .counts .frames) (put-at o (Q .text) out) ≡ take o out ++ Q .text = ap (λ (i : ℕ). take i (put-at o (Q .text) out)) k ∙ put-front o (Q .text) out (good .reach) in
-    put-front (327 * Q .job .counts .frames) f (put-at o (Q .text) out) r
-    ∙ ap (λ (x : List ℕ). x ++ f) u
-    ∙ append-assoc (take o out) (Q .text) f
-    ∙ sym (good .made ∙ ap (λ (x : List ℕ). take o out ++ x) (from-here ∙ ap (λ (x : List ℕ). Q .text ++ x) (printed-ended t (Q .job) [] (drop (p .at + used) text) c)))
+      let o : ℕ = 327 * p .counts .frames in
+      let k : 327 * Q .job .counts .frames ≡ o + length (Q .text) = part-frames t (going b p) (min (327 * most) (length forms)) [] input in
+      let f : List ℕ = last-form (Q .job .counts) (Q .job .code) [] in
+      let r : 327 * Q .job .counts .frames ≤ length (put-at o (Q .text) out) = rw k (put-reach o (Q .text) out (good .reach)) in
+      let u : take (327 * Q .job .counts .frames) (put-at o (Q .text) out) ≡ take o out ++ Q .text = ap (λ (i : ℕ). take i (put-at o (Q .text) out)) k ∙ put-front o (Q .text) out (good .reach) in
+      put-front (327 * Q .job .counts .frames) f (put-at o (Q .text) out) r
+      ∙ ap (λ (x : List ℕ). x ++ f) u
+      ∙ append-assoc (take o out) (Q .text) f
+      ∙ sym (good .made ∙ ap (λ (x : List ℕ). take o out ++ x) (from-here ∙ ap (λ (x : List ℕ). Q .text ++ x) (printed-ended t (Q .job) [] (drop (p .at + used) text) c)))
 
   in-range : (p .at + used) % 2 ^ 64 ≡ p .at + used
   unfolding used
@@ -227,12 +232,12 @@ module _ (t : List ℤ) (text all : List ℕ) (b : List ℤ) (p : Saved) (out : 
       take (o + length f) (put-at o f (put-at (327 * p .counts .frames) (take written forms′) out)) ≡ all
   unfolding part taken over used
   refused-part {job} {at} {written} {left} {forms′} e z =
-    let j : job ≡ Q .job = cc in
-    let w : written ≡ length (Q .text) = cc in
-    let g : forms′ ≡ Q .text ++ drop (length (Q .text)) forms = cc in
-    let v : take written forms′ ≡ Q .text = rw (w, g) (take-at (Q .text) (drop (length (Q .text)) forms) (length (Q .text)) refl) in
-    let c : Q .job .code ≡ 0 → ⊥ = λ c. z (ap (λ (x : Job). x .code) j ∙ c) in
-    rw (v, j) (stopped c)
+      let j : job ≡ Q .job = cc in
+      let w : written ≡ length (Q .text) = cc in
+      let g : forms′ ≡ Q .text ++ drop (length (Q .text)) forms = cc in
+      let v : take written forms′ ≡ Q .text = rw (w, g) (take-at (Q .text) (drop (length (Q .text)) forms) (length (Q .text)) refl) in
+      let c : Q .job .code ≡ 0 → ⊥ = λ c. z (ap (λ (x : Job). x .code) j ∙ c) in
+      rw (v, j) (stopped c)
 
 -- the text ends with these bytes behind its last line feed: the last form completes the output
 pub good-end : (t : List ℤ) (text all : List ℕ) (b : List ℤ) (p : Saved) (out : List ℕ) → Good t text all b p out
