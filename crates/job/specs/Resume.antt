@@ -21,7 +21,7 @@ use Rattle.call.specs.Call.{Job, Step, stop, framed, counted, line-step, last-f
 use Rattle.call.specs.Call as Call
 use Rattle.call.specs.Chunk as Chunk
 use Rattle.call.specs.Laws.{sized}
-use Rattle.call.specs.Whole.{printed-ended, again, lines-made}
+use Rattle.call.specs.Whole.{with-code, printed-ended, again, lines-made, overlong-made}
 use Rattle.print.specs.Print.{over}
 use Rattle.job.specs.declared.Saved.{Saved}
 use Rattle.job.specs.Job.{nowhere}
@@ -249,3 +249,24 @@ unfolding going printed
 good-end t text all b p out good h =
     put-front (327 * p .counts .frames) (last-form (p .counts) 0 (drop (p .at) text)) out (good .reach)
     ∙ sym (good .made ∙ ap (λ (x : List ℕ). take (327 * p .counts .frames) out ++ x) (ap (λ (x : List ℕ). printed t (going b p) [] x) (sym (append-nil (drop (p .at) text))) ∙ sym (again t (going b p) [] (drop (p .at) text) [] h)))
+
+-- a refusal's form does not depend on the bytes held
+held-last : (c : Counts) (code : ℕ) (a b : List ℕ) → (code ≡ 0 → ⊥) → last-form c code a ≡ last-form c code b
+unfolding last-form
+held-last c code a b h = rw (ne-eqb code 0 h)
+
+-- more bytes without a line feed than a line has: the refusal completes the output
+pub good-overlong : (t : List ℤ) (text all : List ℕ) (b : List ℤ) (p : Saved) (out : List ℕ) (n : ℕ) → Good t text all b p out
+    → let l : List ℕ = take n (drop (p .at) text) in
+    let code : ℕ = Chunk.overlong l 0 in
+    let f : List ℕ = last-form (p .counts) code l in
+    let o : ℕ = 327 * p .counts .frames in
+    (code ≡ 0 → ⊥) → take (o + length f) (put-at o f out) ≡ all
+unfolding going with-code
+good-overlong t text all b p out n good h =
+    let l : List ℕ = take n (drop (p .at) text) in
+    let code : ℕ = Chunk.overlong l 0 in
+    let o : ℕ = 327 * p .counts .frames in
+    put-front o (last-form (p .counts) code l) out (good .reach)
+    ∙ sym (good .made ∙ ap (λ (x : List ℕ). take o out ++ x) (ap (λ (x : List ℕ). printed t (going b p) [] x) (sym (take-append-drop n (drop (p .at) text)))
+    ∙ overlong-made t (going b p) l (drop n (drop (p .at) text)) ∙ printed-ended t _ [] _ h ∙ held-last (p .counts) code [] l h))
