@@ -36,16 +36,6 @@ pub(crate) fn put(out: i32, forms: &[u8], frames: u32, name: &[u8]) -> bool {
     true
 }
 
-// Cuts OUT so many bytes behind the forms of so many frames.
-pub(crate) fn cut(out: i32, frames: u32, more: usize, name: &[u8]) -> bool {
-    let end = std::num::wrapping_add_u64(327 * (frames as u64), more as u64);
-    if libc::ftruncate(out, job::parts::position(end)) < 0 {
-        os::fail(name);
-        return false;
-    }
-    true
-}
-
 // Waits until all that was written is on the disk.
 pub(crate) fn sync(fd: i32, name: &[u8]) -> bool {
     if libc::fsync(fd) < 0 {
@@ -53,6 +43,16 @@ pub(crate) fn sync(fd: i32, name: &[u8]) -> bool {
         return false;
     }
     true
+}
+
+// Cuts OUT so many bytes behind the forms of so many frames, and waits until it is on the disk.
+pub(crate) fn cut(out: i32, frames: u32, more: usize, name: &[u8]) -> bool {
+    let end = std::num::wrapping_add_u64(327 * (frames as u64), more as u64);
+    if libc::ftruncate(out, job::parts::position(end)) < 0 {
+        os::fail(name);
+        return false;
+    }
+    sync(out, name)
 }
 
 // The same for a folder's names. Not every file system can do that, so there is no message.

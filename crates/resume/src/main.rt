@@ -20,7 +20,7 @@ struct Fds {
     out: i32,
 }
 
-// What is left to do: the place in the call, how many frames may follow, and whether there is anything to do.
+// What is left to do: the place in the call, how many frames may follow (0 only where as many were done as were asked for), and whether to go on.
 struct Todo {
     place: Saved,
     most: u32,
@@ -76,8 +76,22 @@ fn end(p: Saved, held: &[u8], fds: Fds, name: &[u8]) -> bool {
     false
 }
 
-// Decodes a part of the text and writes the forms; when they are on the disk, the state behind them is saved. A part in which a line is refused saves
-// nothing, so that the refusal is found again.
+// Saves the state behind a part when its forms are on the disk; `left` frames may follow.
+fn keep(b: &[i16; 234], next: Saved, left: u32, fds: Fds, state: &[u8], name: &[u8]) -> Todo {
+    if !files::sync(fds.out, name) {
+        return stopped(next, 1);
+    }
+    if !files::save(state, b, next) {
+        return stopped(next, 1);
+    }
+    Todo {
+        place: next,
+        most: left,
+        more: 0 < left,
+    }
+}
+
+// Decodes a part of the text and writes its forms. A part in which a line is refused saves no state, so that the refusal is found again.
 fn step(
     t: &[i16; 1880],
     b: &mut [i16; 234],
@@ -105,21 +119,8 @@ fn step(
         return Todo { place, most, more };
     }
     let counts = job.counts;
-    let next = Saved {
-        counts,
-        at: part.at,
-    };
-    if !files::sync(fds.out, name) {
-        return stopped(place, most);
-    }
-    if !files::save(state, b, next) {
-        return stopped(place, most);
-    }
-    Todo {
-        place: next,
-        most: part.left,
-        more: 0 < part.left,
-    }
+    let at = part.at;
+    keep(b, Saved { counts, at }, part.left, fds, state, name)
 }
 
 // One part: the text from the place on is read, and goes to `step`.

@@ -117,23 +117,24 @@ pub(crate) fn open_call(name: &[u8], at: u64) -> i32 {
     fd
 }
 
+// Makes OUT.
+fn make_out(name: &[u8]) -> i32 {
+    let fd = os::create(name);
+    if fd < 0 {
+        os::fail(name);
+    }
+    files::sync_folder(name);
+    fd
+}
+
 // Opens OUT, or makes it where no frame is done; below 0, with a message, where that fails or forms of the frames that are done are missing.
 pub(crate) fn open_out(name: &[u8], frames: u32) -> i32 {
     let fd = os::open_update(name);
     if fd < 0 {
-        if frames == 0 {
-            let made = os::create(name);
-            if made < 0 {
-                os::fail(name);
-            }
-            files::sync_folder(name);
-            return made;
+        if os::errno() == libc::ENOENT && frames == 0 {
+            return make_out(name);
         }
         os::fail(name);
-        files::say(
-            name,
-            b"needed, since the state has frames that are written there",
-        );
         return fd;
     }
     if libc::lseek(fd, 0, libc::SEEK_END) < job::parts::offset(frames) {
