@@ -175,7 +175,7 @@ unfolding wanted
 wanted-none l h = rw (eq-eqb _ _ h)
 
 digits-step : (l : List ℕ) (i n : ℕ) → i < length l
-    → digits n (drop i l) ≡ cond (leb 48 (getD l i 0) && leb (getD l i 0) 57) (digits (min (10 * n + (getD l i 0 - 48)) 360000) (drop (i + 1) l)) no-number
+    → digits n (drop i l) ≡ cond (leb 48 (getD l i 0) && leb (getD l i 0) 57) (digits (min (10 * n + (getD l i 0 - 48)) 360001) (drop (i + 1) l)) no-number
 unfolding digits
 digits-step l i n h = rw (drop-cons l i 0 h, add-one)
 
@@ -188,7 +188,7 @@ module _ (l : List ℕ) (i n : ℕ) (h : i < length l) (e : digits 0 l ≡ digit
   unfolding wanted
   wanted-high j k = rw (ne-eqb (length l) 0 (λ z. omega arith), e, digits-step l i n h, le-leb 48 (getD l i 0) j, lt-leb (getD l i 0) 57 k)
 
-  pub wanted-more : (m : ℕ) → 48 ≤ getD l i 0 → getD l i 0 ≤ 57 → m ≡ min (10 * n + (getD l i 0 - 48)) 360000 → digits 0 l ≡ digits m (drop (i + 1) l)
+  pub wanted-more : (m : ℕ) → 48 ≤ getD l i 0 → getD l i 0 ≤ 57 → m ≡ min (10 * n + (getD l i 0 - 48)) 360001 → digits 0 l ≡ digits m (drop (i + 1) l)
   wanted-more m j k g = e ∙ rw (digits-step l i n h, le-leb 48 (getD l i 0) j, le-leb (getD l i 0) 57 k, g)
 
 pub wanted-end : (l : List ℕ) (i n : ℕ) → (length l ≡ 0 → ⊥) → length l ≤ i → digits 0 l ≡ digits n (drop i l) → record { good = true; most = n } ≡ wanted l

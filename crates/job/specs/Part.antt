@@ -46,10 +46,10 @@ part t b p most input out = taken p most input out (Chunk.part t (going b p) (mi
 unfoldable pub no-number : Frames
 no-number = record { good = false; most = 0 }
 
--- the number of the digits n and then l, 360,000 at most
+-- the number of the digits n and then l, 360,001 at most: a call has no more than 360,000 frames (01), so this asks for all
 unfoldable pub digits : ℕ → List ℕ → Frames
 digits n [] = record { good = true; most = n }
-digits n (b ∷ l) = cond (leb 48 b && leb b 57) (digits (min (10 * n + (b - 48)) 360000) l) no-number
+digits n (b ∷ l) = cond (leb 48 b && leb b 57) (digits (min (10 * n + (b - 48)) 360001) l) no-number
 
 unfoldable pub wanted : List ℕ → Frames
 wanted l = cond (eqb (length l) 0) no-number (digits 0 l)

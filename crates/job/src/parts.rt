@@ -18,7 +18,7 @@ pub struct Decoded {
     pub left: u32,
 }
 
-// The number of frames that is asked for, 360,000 at most; not good where it is no decimal number.
+// The number of frames that is asked for, 360,001 at most, which no call has; not good where it is no decimal number.
 pub struct Frames {
     pub good: bool,
     pub most: u32,
@@ -77,14 +77,14 @@ pub fn part(t: &[i16], b: &mut [i16], p: Saved, most: u32, input: &[u8], out: &m
 
 // One digit more.
 fn further(n: u32, b: u8) -> u32
-    requires { ⌜ (n ≤ 360000) × (48 ≤ b) ⌝ }
-    ensures { λ r. ⌜ r ≡ min (10 * n + (b - 48)) 360000 ⌝ }
+    requires { ⌜ (n ≤ 360001) × (48 ≤ b) ⌝ }
+    ensures { λ r. ⌜ r ≡ min (10 * n + (b - 48)) 360001 ⌝ }
 {
     let m = 10 * n + (b - 48) as u32;
-    if m < 360000 { m } else { 360000 }
+    if m < 360001 { m } else { 360001 }
 }
 
-// The number of frames that is asked for, 360,000 at most, as many as a call has; refused where it is no decimal number.
+// The number of frames that is asked for; where there are more than a call can have, 360,001. Not good where it is no decimal number.
 pub fn wanted(text: &[u8]) -> Frames
     ensures { λ r. ⌜ r ≡ wanted (now (text .entry)) ⌝ }
 {

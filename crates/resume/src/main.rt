@@ -249,12 +249,12 @@ fn usage() {
     io::write_all(STDERR_FILENO, b"usage: resume CALL STATE OUT [FRAMES]\n");
 }
 
-// The fourth argument: at most so many frames; all where there is none.
+// The fourth argument: at most so many frames. Where there is none, one more than a call can have, so that the end is always reached.
 fn frames_asked() -> Frames {
     if os::arg_count() < 5 {
         return Frames {
             good: true,
-            most: 360000,
+            most: 360001,
         };
     }
     let mut text = [0u8; 64];

@@ -10,7 +10,7 @@ use Rattle.job.proofs.parts.wanted.Statement.{statement}
 use Rattle.job.proofs.parts.wanted.Tie as tie
 
 abbrev Inv-loop : tie.InvT-loop
-Inv-loop text n₀ i₀ n i = (i ≤ length text) × (n ≤ 360000) × (digits 0 text ≡ digits n (drop i text))
+Inv-loop text n₀ i₀ n i = (i ≤ length text) × (n ≤ 360001) × (digits 0 text ≡ digits n (drop i text))
 
 abbrev μ-loop : tie.MeasureT-loop
 μ-loop text n₀ i₀ n i = length text - i
