@@ -2,7 +2,7 @@
 // state. The bytes of OUT that stand before the state's place are on the disk before the state is, and a new state takes the place of the old one by a rename; so wherever the
 // program is stopped, the same command goes on from the last good state and writes the same bytes again. The decisions are those of crate job, on slices;
 // here are the files.
-ghost use Prim.Native.Nat.{_≤_, _<_};
+ghost use Prim.Native.Nat.{_<_};
 
 mod files;
 mod start;
