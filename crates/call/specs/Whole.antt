@@ -91,7 +91,7 @@ unfolding to-feed
 no-feed = refl
 
 -- held bytes may as well be read again
-again : (t : List ℤ) (job : Job) (a held text : List ℕ) → to-feed held ≡ length held → printed t job (a ++ held) text ≡ printed t job a (held ++ text)
+pub again : (t : List ℤ) (job : Job) (a held text : List ℕ) → to-feed held ≡ length held → printed t job (a ++ held) text ≡ printed t job a (held ++ text)
 unfolding printed
 again t job a [] text h = rw append-nil
 again t job a (b ∷ held) text h = by (eqb (job .code) 0) refl (again t job (a ++ (b ∷ [])) held text (feedless-rest b held h .1))

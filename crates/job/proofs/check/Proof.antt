@@ -1,0 +1,60 @@
+-- `job::check` meets its contract: each test decides a part of it.
+use mathlib.Core.Path.{sym, _∙_}
+use borrow.Author.Tests.{not-true, not-false}
+use Rattle.job.specs.Laws.{check-length, check-sum, check-counts, check-state, block-is}
+use borrow.Author.Needs.{needs}
+use Rattle.job.proofs.check.Statement.{statement}
+use Rattle.job.proofs.check.Tie as tie
+
+returns : tie.Need-returns
+returns c = check-length _ (c .if1 .taken)
+
+returns-2 : tie.Need-returns-2
+returns-2 c = check-sum _ (c .before .before .if1 .left) (sym (c .before .sum-fits .ensures) ∙ not-true _ (c .if2 .taken))
+
+returns-3 : tie.Need-returns-3
+returns-3 c =
+    let e = c .before .before .before in
+    check-counts
+    _
+    _
+    (e .before .before .if1 .left)
+    (sym (e .before .sum-fits .ensures) ∙ not-false _ (e .if2 .left))
+    (c .before .before .place .ensures)
+    (sym (c .before .counts-fit .ensures) ∙ not-true _ (c .if3 .taken))
+
+returns-4 : tie.Need-returns-4
+returns-4 c =
+    let d = c .before .before .before .before .before .before in
+    let e = d .before .before .before in
+    let f = e .before .before .before .before .args .bytes .now in
+    check-state
+    f
+    _
+    _
+    _
+    (e .before .before .if1 .left)
+    (sym (e .before .sum-fits .ensures) ∙ not-false _ (e .if2 .left))
+    (d .before .before .place .ensures)
+    (sym (d .before .counts-fit .ensures) ∙ not-false _ (d .if3 .left))
+    (block-is f _ _ (e .before .before .if1 .left) (search needs) (c .before .before .before .from-bytes .ensures))
+    (c .state-check .ensures)
+
+pub check-spec : {M : Type 1} → statement M
+check-spec =
+    tie.close
+    (tie.spec
+    returns
+    (λ c κs. search needs)
+    returns-2
+    (λ c κs. search needs)
+    (λ c κs. search needs)
+    returns-3
+    (λ c. search needs)
+    (λ c. search needs)
+    (λ c. search needs)
+    (λ c. search needs)
+    (λ c κs. search needs)
+    (λ c. search needs)
+    (λ c κs. search needs)
+    returns-4)

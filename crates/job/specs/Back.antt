@@ -1,0 +1,171 @@
+-- A job file read back: what was packed, for every state block that 01's check accepts and all counts that a job can have. Assumes nothing.
+use mathlib.Core.Path.{_≡_, refl, sym, _∙_, subst}
+use mathlib.Core.Bool.{Bool, true, false, _&&_}
+use mathlib.Core.List.{List, [], _∷_, _++_, append-assoc}
+use Prim.Native.Nat.{ℕ, zero, suc, _+_, _-_, _*_, _/_, _≤_, _<_}
+use native.Mathlib.Omega.{arith}
+use borrow.Author.Tests.{eq-eqb, leb-true}
+use lib.Dec.{leb, T}
+use lib.IntN.{ℤ}
+use lib.Signed.{mag}
+use lib.ListN.{length, take, drop, getD, set, length-append}
+use lib.Seq.{take-at, drop-at, take-all}
+use Rattle.basic_op.specs.Low.{low-lt}
+use Rattle.laws.specs.Lists.{at}
+use Rattle.state.specs.State.{state-check}
+use Rattle.words.specs.Words.{bytes, number-bytes}
+use Rattle.words.specs.Laws.{length-bytes, words-back, length-number-bytes, number-back}
+use Rattle.job.specs.declared.Saved.{Saved}
+use Rattle.job.specs.Crc32.{crc32}
+use Rattle.job.specs.Job.{body, pack, block, place, sum-fits, counts-fit, check, answer, read}
+use Rattle.job.specs.Damage.{Bytes, crc32-lt, damaged}
+
+-- ---- a list of five parts
+
+abbrev five : List ℕ → List ℕ → List ℕ → List ℕ → List ℕ → List ℕ
+five b x y z s = (b ++ (x ++ (y ++ z))) ++ s
+
+module _ (b x y z s : List ℕ) (nb : length b ≡ 468) (nx : length x ≡ 4) (ny : length y ≡ 4) (nz : length z ≡ 8) (ns : length s ≡ 4) where
+  n₄ : length (b ++ (x ++ (y ++ z))) ≡ 484
+  n₄ = simp length-append (omega arith)
+
+  part-body : take 484 (five b x y z s) ≡ b ++ (x ++ (y ++ z))
+  part-body = take-at _ s 484 n₄
+
+  part-s : take 4 (drop 484 (five b x y z s)) ≡ s
+  part-s = rw (drop-at (b ++ (x ++ (y ++ z))) s 484 n₄) (take-all 4 s (omega arith))
+
+  part-b : take 468 (five b x y z s) ≡ b
+  part-b = rw (append-assoc b (x ++ (y ++ z)) s) (take-at b _ 468 nb)
+
+  part-x : take 4 (drop 468 (five b x y z s)) ≡ x
+  part-x = rw (append-assoc b (x ++ (y ++ z)) s, drop-at b ((x ++ (y ++ z)) ++ s) 468 nb, append-assoc x (y ++ z) s) (take-at x _ 4 nx)
+
+  by-b-x : (five b x y z s) ≡ (b ++ x) ++ (y ++ (z ++ s))
+  by-b-x = simp append-assoc
+
+  part-y : take 4 (drop 472 (five b x y z s)) ≡ y
+  part-y =
+      let n : length (b ++ x) ≡ 472 = simp length-append (omega arith) in
+      rw (by-b-x, drop-at (b ++ x) (y ++ (z ++ s)) 472 n) (take-at y _ 4 ny)
+
+  by-y : (five b x y z s) ≡ (b ++ (x ++ y)) ++ (z ++ s)
+  by-y = simp append-assoc
+
+  part-z : take 8 (drop 476 (five b x y z s)) ≡ z
+  part-z =
+      let n : length (b ++ (x ++ y)) ≡ 476 = simp length-append (omega arith) in
+      rw (by-y, drop-at (b ++ (x ++ y)) (z ++ s) 476 n) (take-at z _ 8 nz)
+
+-- ---- all that is written are bytes
+
+bytes-append : (l m : List ℕ) → Bytes l → Bytes m → Bytes (l ++ m)
+bytes-append [] m a c k = c k
+bytes-append (b ∷ l) m a c zero = a 0
+bytes-append (b ∷ l) m a c (suc k) = bytes-append l m (λ i. a (suc i)) c k
+
+bytes-number : (n m : ℕ) → Bytes (number-bytes n m)
+unfolding number-bytes
+bytes-number zero m k = omega arith
+bytes-number (suc n) m zero = omega arith
+bytes-number (suc n) m (suc k) = bytes-number n (m / 256) k
+
+bytes-words : (l : List ℤ) → Bytes (bytes l)
+unfolding bytes
+bytes-words [] k = omega arith
+bytes-words (z ∷ l) zero = omega arith
+bytes-words (z ∷ l) (suc zero) = omega (arith, low-lt z)
+bytes-words (z ∷ l) (suc (suc k)) = bytes-words l k
+
+bytes-body : (b : List ℤ) (p : Saved) → Bytes (body b p)
+unfolding body
+bytes-body b p =
+    bytes-append (bytes b) _ (bytes-words b)
+    (bytes-append (number-bytes 4 (p .counts .frames)) _ (bytes-number 4 (p .counts .frames))
+    (bytes-append (number-bytes 4 (p .counts .lost)) (number-bytes 8 (p .at)) (bytes-number 4 (p .counts .lost)) (bytes-number 8 (p .at))))
+
+-- ---- the counts of a job
+
+both : (a b : Bool) → (a && b) ≡ true → (a ≡ true) × (b ≡ true)
+both true b e = (refl, e)
+both false b e = absurd (subst T (sym e) tt)
+
+-- what fits is far from the ends of 32 and 64 bits
+pub record Small (p : Saved) : Type 0 where
+  pub frames : p .counts .frames ≤ 360000
+  pub lost : p .counts .lost ≤ p .counts .frames
+  pub at : p .at ≤ 37 * p .counts .frames
+
+pub small : (p : Saved) → counts-fit p ≡ true → Small p
+unfolding counts-fit
+small p e =
+    let f = both (leb (p .counts .lost) (p .counts .frames)) _ e in
+    let g = both (leb (p .counts .frames) 360000) _ (f .1) in
+    let h = both (leb (15 * p .counts .frames) (p .at)) (leb (p .at) (37 * p .counts .frames)) (g .1) in
+    record { frames = leb-true _ _ (g .0); lost = leb-true _ _ (f .0); at = leb-true _ _ (h .1) }
+
+-- ---- a packed job
+
+module _ (b : List ℤ) (p : Saved) (n : length b ≡ 234) (w : (k : ℕ) → mag (at b k) < 32768) (c : counts-fit p ≡ true) where
+  abbrev X : List ℕ
+  X = number-bytes 4 (p .counts .frames)
+
+  abbrev Y : List ℕ
+  Y = number-bytes 4 (p .counts .lost)
+
+  abbrev Z : List ℕ
+  Z = number-bytes 8 (p .at)
+
+  abbrev S : List ℕ
+  S = number-bytes 4 (crc32 (body b p))
+
+  nb : length (bytes b) ≡ 468
+  nb = length-bytes b ∙ omega arith
+
+  nx : length X ≡ 4
+  nx = length-number-bytes 4 (p .counts .frames)
+
+  ny : length Y ≡ 4
+  ny = length-number-bytes 4 (p .counts .lost)
+
+  nz : length Z ≡ 8
+  nz = length-number-bytes 8 (p .at)
+
+  ns : length S ≡ 4
+  ns = length-number-bytes 4 (crc32 (body b p))
+
+  pub pack-length : length (pack b p) ≡ 488
+  unfolding pack body
+  pack-length = length-append (bytes b ++ (X ++ (Y ++ Z))) S ∙ omega (arith, n₄ (bytes b) X Y Z S nb nx ny nz ns, ns)
+
+  pub pack-bytes : Bytes (pack b p)
+  unfolding pack
+  pack-bytes = bytes-append (body b p) _ (bytes-body b p) (bytes-number 4 _)
+
+  pub pack-sum : sum-fits (pack b p) ≡ true
+  unfolding pack body sum-fits
+  pack-sum =
+      rw (part-s (bytes b) X Y Z S nb nx ny nz ns, part-body (bytes b) X Y Z S nb nx ny nz ns) (eq-eqb _ _ (number-back 4 (crc32 (body b p)) (crc32-lt (body b p) (bytes-body b p))))
+
+  pub pack-place : place (pack b p) ≡ p
+  unfolding pack body place
+  pack-place =
+      let m = small p c in
+      rw (part-x (bytes b) X Y Z S nb nx ny nz ns, part-y (bytes b) X Y Z S nb nx ny nz ns, part-z (bytes b) X Y Z S nb nx ny nz ns, number-back 4 (p .counts .frames) (omega arith), number-back 4 (p .counts .lost) (omega arith), number-back 8 (p .at) (omega arith))
+
+  pub pack-block : block (pack b p) ≡ b
+  unfolding pack body block
+  pack-block = rw (part-b (bytes b) X Y Z S nb nx ny nz ns) (words-back b w)
+
+  -- the number is that of 01's check of the block
+  pub pack-check : check (pack b p) ≡ state-check b
+  unfolding check
+  pack-check = rw (eq-eqb _ _ pack-length, pack-sum, pack-place, c, pack-block)
+
+  pub pack-read : (lent : List ℤ) → state-check b ≡ 0 → read (pack b p) lent ≡ answer 0 p b
+  unfolding read
+  pack-read lent e = rw (pack-check, eq-eqb _ _ e, pack-place, pack-block)
+
+  -- one byte damaged: 22
+  pub pack-damaged : (k v : ℕ) → k < 488 → v < 256 → (v ≡ getD (pack b p) k 0 → ⊥) → check (set (pack b p) k v) ≡ 22
+  pack-damaged k v h j d = damaged (pack b p) k v pack-bytes pack-length h j d pack-sum

@@ -1,0 +1,145 @@
+// What is read before the first line: the tables and the state file; and the files opened. Each refusal is said on standard output as 01 prints it, with line 0, and
+// in plain words on standard error.
+ghost use Prim.Native.Nat.{_≤_};
+ghost use lib.ListN.{length};
+use crate::files;
+use count::Counts;
+use job::Saved;
+
+// Where the job goes on, and whether it is a new one; not good where it is refused.
+pub(crate) struct Begun {
+    pub place: Saved,
+    pub fresh: bool,
+    pub good: bool,
+}
+
+fn refuse(code: u32) {
+    let mut form = [0u8; 46];
+    let n = print::refused(code, 0, &mut form);
+    files::print(&form, n);
+}
+
+// The bytes of a file at the front of `bytes`, none where it can't be opened.
+fn read(name: &[u8], bytes: &mut [u8]) -> usize
+    ensures { λ r. ⌜ r ≤ length (now (bytes .exit)) ⌝ }
+{
+    let fd = os::open_read(name);
+    if fd < 0 {
+        os::fail(name);
+        return 0;
+    }
+    let n = io::read_full(fd, bytes);
+    libc::close(fd);
+    n
+}
+
+// The tables and the fresh state; false where they are refused.
+pub(crate) fn tables(t: &mut [i16; 1880], b: &mut [i16; 234]) -> bool {
+    let name = b"tables.g729";
+    let mut file = [0u8; 3761];
+    let n = read(name, &mut file);
+    let code = call::begin(&file[0..n], t, b);
+    if code == 0 {
+        return true;
+    }
+    refuse(code);
+    if code == 1 {
+        files::say(name, b"not 3,760 bytes of tables");
+    } else {
+        files::say(name, b"the initial delay is not in 19..144");
+    }
+    false
+}
+
+fn say_state(name: &[u8], code: u32) {
+    if code == 3 {
+        files::say(
+            name,
+            b"not 488 bytes, so no state file, or one that was cut short",
+        );
+    } else if code == 22 {
+        files::say(name, b"damaged: its check sum or its counts don't fit");
+    } else {
+        files::say(name, b"its predictor or its delay is out of range");
+    }
+}
+
+fn nowhere() -> Saved {
+    let counts = Counts { frames: 0, lost: 0 };
+    Saved { counts, at: 0 }
+}
+
+// The state file; where there is none, a new job.
+pub(crate) fn state(name: &[u8], b: &mut [i16; 234]) -> Begun {
+    let fd = os::open_read(name);
+    if fd < 0 {
+        let fresh = os::errno() == libc::ENOENT;
+        if !fresh {
+            os::fail(name);
+        }
+        return Begun {
+            place: nowhere(),
+            fresh,
+            good: fresh,
+        };
+    }
+    let mut file = [0u8; 489];
+    let n = io::read_full(fd, &mut file);
+    libc::close(fd);
+    let found = job::read(&file[0..n], b);
+    let code = found.code;
+    let place = found.place;
+    if code != 0 {
+        refuse(code);
+        say_state(name, code);
+    }
+    Begun {
+        place,
+        fresh: false,
+        good: code == 0,
+    }
+}
+
+// Opens the call; below 0, with a message, where that fails or it ends before the place.
+pub(crate) fn open_call(name: &[u8], at: u64) -> i32 {
+    let fd = os::open_read(name);
+    if fd < 0 {
+        os::fail(name);
+        return fd;
+    }
+    if libc::lseek(fd, 0, libc::SEEK_END) < job::parts::position(at) {
+        files::say(
+            name,
+            b"shorter than what the state has taken of it; is it another call?",
+        );
+        return -1;
+    }
+    fd
+}
+
+// Makes OUT.
+fn make_out(name: &[u8]) -> i32 {
+    let fd = os::create(name);
+    if fd < 0 {
+        os::fail(name);
+    }
+    files::sync_folder(name);
+    fd
+}
+
+// Opens OUT, or makes it where no frame is done; below 0, with a message, where that fails or forms of the frames that are done are missing.
+pub(crate) fn open_out(name: &[u8], frames: u32) -> i32 {
+    let fd = os::open_update(name);
+    if fd < 0 {
+        if os::errno() == libc::ENOENT && frames == 0 {
+            return make_out(name);
+        }
+        os::fail(name);
+        return fd;
+    }
+    if libc::lseek(fd, 0, libc::SEEK_END) < job::parts::offset(frames) {
+        files::say(name, b"shorter than what the state has written there");
+        return -1;
+    }
+    fd
+}
