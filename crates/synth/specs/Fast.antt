@@ -51,8 +51,8 @@ term-behind a y n i = at a (i + 1 + 1) *ℤ at y (n - (i + 1))
 unfoldable pub sum-behind : List ℤ → ℤ → List ℤ → ℕ → ℤ
 sum-behind a x y n = less (term-behind a y n) 9 (x *ℤ at a 0)
 
--- l holds the sums of sample n, of excitation x, and of the one behind it, of excitation u, when of both the m newest past samples are still to be taken off; they are so
--- small that the halves stay apart and l within 64 bits
+-- l holds the sums of sample n, of excitation x, and of the one behind it, of excitation u, when of both the m newest past samples are still to be taken off. With a weight up to
+-- 61439 each is below 2 ^ 31 in size, so that the halves can be parted and l stays within 64 bits
 pub record Halves (a : List ℤ) (x u : ℤ) (y : List ℤ) (n m : ℕ) (l : ℤ) : Type 0 where
   pub low : ℤ
   pub high : ℤ
@@ -67,7 +67,7 @@ abbrev pub Range : ℤ → Type 0
 Range (pos m) = m < 134215680
 Range (negsuc m) = m < 134217728
 
--- w is l rounded, from Q12 to Q0
+-- l is in range, and w is l rounded from Q12 to Q0
 abbrev pub Rounded : ℤ → ℤ → Type 0
 Rounded l w = Range l × (w ≡ shrZ (l +ℤ pos 2048) (2 ^ 12))
 

@@ -30,6 +30,13 @@ pub weight-size : (c : ℤ) → natAbs c ≤ weight c
 unfolding weight
 weight-size c = omega arith
 
+-- a product with a word
+pub product-size : (c v : ℤ) → natAbs v ≤ 32768 → natAbs (c *ℤ v) ≤ weight c * 32768
+product-size c v h = rw abs-mul (mul-le-mul (weight-size c) h)
+
+pub excitation-size : (x c : ℤ) → natAbs x ≤ 32768 → natAbs (x *ℤ c) ≤ 32768 * weight c
+excitation-size x c h = rw abs-mul (mul-le-mul h (weight-size c))
+
 weight-small : (c : ℤ) → weight c ≤ 61439 → natAbs c ≤ 32767
 unfolding weight
 weight-small c h = go (ltb (natAbs c) 32768) refl h
@@ -85,19 +92,16 @@ double-mag z h = omega (arith, mag-abs (pos 2 *ℤ z), abs-mul (pos 2) z)
 
 module _ (a : List ℤ) (x : ℤ) (y : List ℤ) (n : ℕ) (light : weights a 10 ≤ 61439) (word : natAbs x ≤ 32768) (past : Past y n 0) where
   term-size : (i : ℕ) → i < 10 → natAbs (term a y n i) ≤ weight (at a (i + 1)) * 32768
-  term-size i h = rw abs-mul (mul-le-mul (weight-size (at a (i + 1))) (past i (omega arith) h))
+  term-size i h = product-size (at a (i + 1)) (at y (n - (i + 1))) (past i (omega arith) h)
 
   term-fits : (i : ℕ) → i < 10 → mag (pos 2 *ℤ term a y n i) ≤ 2147483647
   term-fits i h =
       let p : natAbs (term a y n i) ≤ 32767 * 32768 = rw abs-mul (mul-le-mul (weight-small (at a (i + 1)) (omega (arith, weights-one a 10 i h))) (past i (omega arith) h)) in
       double-mag (term a y n i) (omega arith)
 
-  first-size : natAbs (x *ℤ at a 0) ≤ 32768 * weight (at a 0)
-  first-size = rw abs-mul (mul-le-mul word (weight-size (at a 0)))
-
   all-sizes : (k : ℕ) → k ≤ 10 → natAbs (x *ℤ at a 0) + sizes (term a y n) k ≤ 32768 * weights a k
   unfolding weights steps
-  all-sizes zero h = omega (arith, first-size)
+  all-sizes zero h = omega (arith, excitation-size x (at a 0) word)
   all-sizes (suc k) h = omega (arith, all-sizes k (omega arith), term-size k h)
 
   module _ (low : natAbs (whole-sum a x y n) ≤ 134217728) where

@@ -3,10 +3,10 @@ use Prim.Native.Nat.{ℕ, zero, suc, _+_, _-_, _*_, _^_, _≤_, _<_}
 use mathlib.Core.Path.{_≡_, refl, sym, ap, _∙_}
 use mathlib.Core.Bool.{Bool, false}
 use mathlib.Core.List.{List}
-use native.Mathlib.Nat.{mul-le-mul, div-eq-of-lt}
+use native.Mathlib.Nat.{div-eq-of-lt}
 use native.Mathlib.Numerals.{add-one}
 use native.Mathlib.Omega.{arith}
-use lib.IntN.{ℤ, pos, negsuc, negℤ, natAbs, _+ℤ_, _-ℤ_, _*ℤ_, +ℤ-idl, +ℤ-assoc, negℤ-+ℤ, +ℤ-negℤ-cancel, -ℤ-+ℤ-cancel}
+use lib.IntN.{ℤ, pos, negsuc, negℤ, natAbs, _+ℤ_, _-ℤ_, _*ℤ_, +ℤ-idl, +ℤ-negℤ-cancel}
 use lib.ListN.{set}
 use lib.Seq.{getD-set-other}
 use lib.Signed.{mag, shrZ, natAbs-le}
@@ -21,19 +21,8 @@ use Rattle.laws.specs.Ints.{add-swap, mul-add, mul-swap, shr-add}
 use Rattle.synth.specs.Fast.{term, whole-sum, weight, weights, Past, both, pairs, term-behind, sum-behind, Halves, Rounded, Sampled, Reached}
 use Rattle.synth.specs.Synth.{exc-start, speech-start}
 use Rattle.synth.specs.Laws.{samples-turn, saturates-turn}
-use Rattle.synth.specs.Whole.{abs-sub, less, less-first}
-use Rattle.synth.specs.FastLaws.{weight-size, weights-one, sample-whole, sample-quiet}
-
--- ---- rearranged
-
-sub-mul : (x y q : ℤ) → (x -ℤ y) *ℤ q ≡ x *ℤ q -ℤ y *ℤ q
-sub-mul x y q =
-    sym (+ℤ-negℤ-cancel ((x -ℤ y) *ℤ q) (y *ℤ q)) ∙ ap (λ (z : ℤ). z -ℤ y *ℤ q) (sym (mul-add (x -ℤ y) y q) ∙ ap (λ (z : ℤ). z *ℤ q) (-ℤ-+ℤ-cancel x y))
-
-sub-sums : (a b c d : ℤ) → a +ℤ b -ℤ (c +ℤ d) ≡ a -ℤ c +ℤ (b -ℤ d)
-sub-sums a b c d =
-    ap (λ (z : ℤ). a +ℤ b +ℤ z) (negℤ-+ℤ c d) ∙ sym (+ℤ-assoc (a +ℤ b) (negℤ c) (negℤ d)) ∙ ap (λ (z : ℤ). z +ℤ negℤ d) (add-swap a b (negℤ c))
-    ∙ +ℤ-assoc (a -ℤ c) b (negℤ d)
+use Rattle.synth.specs.Whole.{abs-sub, sub-mul, sub-sums, less, less-first, less-front}
+use Rattle.synth.specs.FastLaws.{weight-size, product-size, excitation-size, weights-one, sample-whole, sample-quiet}
 
 -- ---- two numbers in one
 
@@ -109,9 +98,6 @@ pairs-size a k h q =
 
 -- ---- the sums of two samples, past sample by past sample
 
-product-size : (c v : ℤ) → natAbs v ≤ 32768 → natAbs (c *ℤ v) ≤ weight c * 32768
-product-size c v h = rw abs-mul (mul-le-mul (weight-size c) h)
-
 rest-turn : (t : ℕ → ℤ) (k m : ℕ) → m ≡ k + 1 → (l v s : ℤ) → v ≡ t k → less t m l ≡ s → less t k (l -ℤ v) ≡ s
 unfolding steps
 rest-turn t k m d l v s e f = less-first t k l v ∙ rw e (rw (d, add-one) at f)
@@ -130,12 +116,9 @@ module _ (a : List ℤ) (x u : ℤ) (y : List ℤ) (n : ℕ) where
         sum = rw (e, f, both-times) (both-sub-low (x *ℤ at a 0) (u *ℤ at a 0) (at a 10 *ℤ at y (n - 10)));
         low-rest = less-first (term a y n) 9 (x *ℤ at a 0) (at a 10 *ℤ at y (n - 10));
         high-rest = refl;
-        low-size = omega (arith, abs-sub (x *ℤ at a 0) (at a 10 *ℤ at y (n - 10)), first-size x hx, product-size (at a 10) (at y (n - 10)) hv, weights-more a 9);
-        high-size = omega (arith, first-size u hu);
+        low-size = omega (arith, abs-sub (x *ℤ at a 0) (at a 10 *ℤ at y (n - 10)), excitation-size x (at a 0) hx, product-size (at a 10) (at y (n - 10)) hv, weights-more a 9);
+        high-size = omega (arith, excitation-size u (at a 0) hu);
       }
-    where
-      first-size : (z : ℤ) → natAbs z ≤ 32768 → natAbs (z *ℤ at a 0) ≤ 32768 * weight (at a 0)
-      first-size z h = rw abs-mul (mul-le-mul h (weight-size (at a 0)))
 
   -- one sample more, the m-th before n
   pub halves-turn : (k m : ℕ) → m ≡ k + 1 → (l c v r : ℤ) → Halves a x u y n m l → c ≡ both (at a m) (at a (m + 1)) → v ≡ at y (n - m) → natAbs (at y (n - m)) ≤ 32768 → r ≡ c *ℤ v → Halves a x u y n k (l -ℤ r)
@@ -201,11 +184,6 @@ module _ (a : List ℤ) (x u : ℤ) (y : List ℤ) (n : ℕ) (l : ℤ) (h : Halv
 
 -- ---- the samples
 
-less-front : (t : ℕ → ℤ) (k : ℕ) (l : ℤ) → less t (suc k) l ≡ less (λ i. t (suc i)) k l -ℤ t 0
-unfolding steps
-less-front t zero l = refl
-less-front t (suc k) l = ap (λ (z : ℤ). z -ℤ t (suc k)) (less-front t k l) ∙ add-swap (less (λ i. t (suc i)) k l) (negℤ (t 0)) (negℤ (t (suc k)))
-
 -- when sample n is written, its product ends the sum of the one behind it
 module _ (a : List ℤ) (u : ℤ) (y : List ℤ) (n : ℕ) (w : ℤ) (from : 10 ≤ n) where
   older : (i : ℕ) → i < 9 → at (set y n w) (n + 1 - (suc i + 1)) ≡ at y (n - (i + 1))
@@ -236,9 +214,9 @@ module _ (a : List ℤ) (x : ℤ) (y : List ℤ) (n : ℕ) (light : weights a 10
 
 -- the second of two, when the first is written; b and v are what the code holds
 module _ (a : List ℤ) (u : ℤ) (y : List ℤ) (n : ℕ) (w : ℤ) (from : 10 ≤ n) (light : weights a 10 ≤ 61439) (word : natAbs u ≤ 32768) (past : Past y n 0) (first : natAbs (at (set y n w) n) ≤ 32768) where
-  pub sampled-next : (m : ℕ) → m ≡ n + 1 → (b v r : ℤ) → b ≡ sum-behind a u y n → v ≡ at (set y n w) n → Rounded (b -ℤ at a 1 *ℤ v) r → Sampled a u (set y n w) m r
-  sampled-next m d b v r e f q =
-      rw d (sampled a u (set y n w) (n + 1) light word (past-next a u y n w from past first) (b -ℤ at a 1 *ℤ v) r (rw (e, f) (sym (sum-next a u y n w from))) q)
+  pub sampled-next : (m : ℕ) → m ≡ n + 1 → (b c v r : ℤ) → b ≡ c → c ≡ sum-behind a u y n → v ≡ at (set y n w) n → Rounded (b -ℤ at a 1 *ℤ v) r → Sampled a u (set y n w) m r
+  sampled-next m d b c v r g e f q =
+      rw d (sampled a u (set y n w) (n + 1) light word (past-next a u y n w from past first) (b -ℤ at a 1 *ℤ v) r (rw (g, e, f) (sym (sum-next a u y n w from))) q)
 
 -- ---- one sample more of the subframe; t is its word read back
 

@@ -129,7 +129,7 @@ fn both(p: i16, q: i16) -> i64
     p as i64 + q as i64 * 4294967296
 }
 
-// Both halves times c.
+// Both halves times c. They are no larger than the heaviest filter: 61439 times 2 ^ 32 + 1 is what both make at most.
 fn both_times(b: i64, c: i16) -> i64
     requires { ⌜ natAbs b ≤ 263878495760383 ⌝ }
     ensures { λ r. ⌜ r ≡ b *ℤ c ⌝ }

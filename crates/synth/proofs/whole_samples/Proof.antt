@@ -86,7 +86,7 @@ next-sampled c =
     let ev = via w16 (at (written t) (place l)) v in
     let q = m .first-of-two .ensures in
     let from : 10 ≤ place l = omega (arith, l .before .before .before .before .before .speech-start .ensures .1 .1) in
-    sampled-next (s .args .a .now) (toZ w16 (ofZ w16 x)) (l .loop .speech) (place l) _ from (light (l .before .before .before)) (rw (via w16 x u) (natAbs-le x u)) (q .1 .1 .1) (natAbs-le (at (written t) (place l)) v) _ (omega arith) _ _ _ (behind m ∙ q .1 .0) ev (c .before .second-of-two .ensures (c .if3 .left))
+    sampled-next (s .args .a .now) (toZ w16 (ofZ w16 x)) (l .loop .speech) (place l) _ from (light (l .before .before .before)) (rw (via w16 x u) (natAbs-le x u)) (q .1 .1 .1) (natAbs-le (at (written t) (place l)) v) _ (omega arith) _ _ _ _ (behind m) (q .1 .0) ev (c .before .second-of-two .ensures (c .if3 .left))
 
 returns-2 : tie.Need-returns-2 Inv-loop μ-loop
 returns-2 c =
