@@ -6,10 +6,9 @@ use mathlib.Core.Bool.{Bool, true, false, cond, _&&_}
 use mathlib.Core.List.{List}
 use mathlib.Core.Logic.{⊎-elim}
 use native.Mathlib.Nat.{eq-or-lt-of-le, le-refl, mul-le-mul}
-use native.Mathlib.Numerals.{add-one}
 use native.Mathlib.Omega.{arith}
 use lib.Dec.{T, ltb}
-use lib.IntN.{ℤ, pos, negsuc, natAbs, subℕ, _+ℤ_, _-ℤ_, _*ℤ_}
+use lib.IntN.{ℤ, pos, negsuc, natAbs, subℕ, _+ℤ_, _*ℤ_}
 use lib.Signed.{mag, ltZ, shrZ, natAbs-le}
 use borrow.Author.Tests.{ltb-true, ltb-false, lt-ltb, le-ltb}
 use mir.Syntax.{w16, w32, w64}
@@ -22,14 +21,21 @@ use Rattle.basic_op.specs.Ops.{sat, sat16, sat32, l-add, l-sub, l-mult, l-mac, 
 use Rattle.basic_op.specs.Laws.{sat-id}
 use Rattle.synth.specs.Synth.{excite, synth-sum, synth-sum-overflow, synth-sample, synth-overflow, samples}
 use Rattle.synth.specs.Laws.{any-none}
-use Rattle.synth.specs.Fast.{term, whole-sum, weight, weights, Past, Reached}
-use Rattle.synth.specs.Whole.{neg-is, double-add, double-sub, less, sizes, less-first, less-between}
+use Rattle.synth.specs.Fast.{term, whole-sum, weight, weights, Past, Range, Reached}
+use Rattle.synth.specs.Whole.{neg-is, double-add, double-sub, less, sizes, less-between}
 
 -- ---- the weight of the coefficients
 
-weight-size : (c : ℤ) → natAbs c ≤ weight c
+pub weight-size : (c : ℤ) → natAbs c ≤ weight c
 unfolding weight
 weight-size c = omega arith
+
+-- a product with a word
+pub product-size : (c v : ℤ) → natAbs v ≤ 32768 → natAbs (c *ℤ v) ≤ weight c * 32768
+product-size c v h = rw abs-mul (mul-le-mul (weight-size c) h)
+
+pub excitation-size : (x c : ℤ) → natAbs x ≤ 32768 → natAbs (x *ℤ c) ≤ 32768 * weight c
+excitation-size x c h = rw abs-mul (mul-le-mul h (weight-size c))
 
 weight-small : (c : ℤ) → weight c ≤ 61439 → natAbs c ≤ 32767
 unfolding weight
@@ -57,28 +63,18 @@ module _ {y c : ℤ} (e : y ≡ c) (f : SFits w16 c) where
       go (pos n) h p = rw (lt-ltb n 32768 (omega arith)) (omega arith)
       go (negsuc n) h p = let q = ltb-false 32766 n p in rw (lt-ltb (suc n) 32768 (omega arith)) (omega arith)
 
-weights-one : (a : List ℤ) (k i : ℕ) → i < k → weight (at a (i + 1)) ≤ weights a k
+pub weights-one : (a : List ℤ) (k i : ℕ) → i < k → weight (at a (i + 1)) ≤ weights a k
 unfolding weights steps
 weights-one a zero i h = absurd (omega arith)
 weights-one a (suc k) i h = ⊎-elim (λ e. rw e (omega arith)) (λ q. omega (arith, weights-one a k i q)) (eq-or-lt-of-le {n = i} {m = k} (omega arith))
 
--- ---- the code's loop takes the oldest sample off first; c, v and r are what it reads and computes
+-- ---- the code's loop takes the oldest sample off first, and learns of each that it is a word
 
 pub past-none : (y : List ℤ) (n : ℕ) → Past y n 10
 past-none y n i p q = absurd (omega arith)
 
-module _ (a : List ℤ) (x : ℤ) (y : List ℤ) (n : ℕ) where
-  pub whole-none : {c : ℤ} (r : ℤ) → c ≡ at a 0 → r ≡ x *ℤ c → less (term a y n) 10 r ≡ whole-sum a x y n
-  unfolding whole-sum
-  whole-none r e q = rw (q, e)
-
-  module _ (k m : ℕ) (d : m ≡ k + 1) where
-    pub whole-turn : (l : ℤ) {c v : ℤ} (r : ℤ) → less (term a y n) m l ≡ whole-sum a x y n → c ≡ at a m → v ≡ at y (n - m) → r ≡ l -ℤ c *ℤ v → less (term a y n) k r ≡ whole-sum a x y n
-    unfolding steps
-    whole-turn l r e f g q = rw (q, f, g, d, less-first (term a y n) k l (term a y n k)) (rw (d, add-one) at e)
-
-    pub past-turn : Past y n m → mag (at y (n - m)) < 32768 → Past y n k
-    past-turn p h i q b = ⊎-elim (λ e. rw (← e, ← d) (natAbs-le (at y (n - m)) h)) (λ j. p i (omega arith) b) (eq-or-lt-of-le q)
+pub past-turn : (y : List ℤ) (n k m : ℕ) → m ≡ k + 1 → Past y n m → mag (at y (n - m)) < 32768 → Past y n k
+past-turn y n k m d p h i q b = ⊎-elim (λ e. rw (← e, ← d) (natAbs-le (at y (n - m)) h)) (λ j. p i (omega arith) b) (eq-or-lt-of-le q)
 
 -- ---- nothing saturates
 
@@ -96,19 +92,16 @@ double-mag z h = omega (arith, mag-abs (pos 2 *ℤ z), abs-mul (pos 2) z)
 
 module _ (a : List ℤ) (x : ℤ) (y : List ℤ) (n : ℕ) (light : weights a 10 ≤ 61439) (word : natAbs x ≤ 32768) (past : Past y n 0) where
   term-size : (i : ℕ) → i < 10 → natAbs (term a y n i) ≤ weight (at a (i + 1)) * 32768
-  term-size i h = rw abs-mul (mul-le-mul (weight-size (at a (i + 1))) (past i (omega arith) h))
+  term-size i h = product-size (at a (i + 1)) (at y (n - (i + 1))) (past i (omega arith) h)
 
   term-fits : (i : ℕ) → i < 10 → mag (pos 2 *ℤ term a y n i) ≤ 2147483647
   term-fits i h =
       let p : natAbs (term a y n i) ≤ 32767 * 32768 = rw abs-mul (mul-le-mul (weight-small (at a (i + 1)) (omega (arith, weights-one a 10 i h))) (past i (omega arith) h)) in
       double-mag (term a y n i) (omega arith)
 
-  first-size : natAbs (x *ℤ at a 0) ≤ 32768 * weight (at a 0)
-  first-size = rw abs-mul (mul-le-mul word (weight-size (at a 0)))
-
   all-sizes : (k : ℕ) → k ≤ 10 → natAbs (x *ℤ at a 0) + sizes (term a y n) k ≤ 32768 * weights a k
   unfolding weights steps
-  all-sizes zero h = omega (arith, first-size)
+  all-sizes zero h = omega (arith, excitation-size x (at a 0) word)
   all-sizes (suc k) h = omega (arith, all-sizes k (omega arith), term-size k h)
 
   module _ (low : natAbs (whole-sum a x y n) ≤ 134217728) where
@@ -132,11 +125,6 @@ module _ (a : List ℤ) (x : ℤ) (y : List ℤ) (n : ℕ) (light : weights a 10
         (overflow-none 2147483647 (pos 2 *ℤ part a x y n (suc k)) (sum-fits (suc k) h))
 
 -- ---- the end of a sample
-
--- from -2 ^ 27 to 2 ^ 27 - 2049: neither the shift by 3 of twice l nor the rounding sum saturates
-abbrev pub Range : ℤ → Type 0
-Range (pos m) = m < 134215680
-Range (negsuc m) = m < 134217728
 
 and-left : (s t : Bool) → (s && t) ≡ true → s ≡ true
 and-left true t e = refl

@@ -4,3 +4,4 @@ pub mod Laws
 pub mod Whole
 pub mod Fast
 pub mod FastLaws
+pub mod Pairs

@@ -1,10 +1,10 @@
--- Laws of differences of whole numbers: their size without the sign, their doubles, and a loop that takes terms off. Assumes nothing.
+-- Laws of differences of whole numbers: their size without the sign, their products and doubles, and a loop that takes terms off. Assumes nothing.
 use Prim.Native.Nat.{ℕ, zero, suc, _+_, _*_, _≤_}
 use mathlib.Core.Path.{_≡_, refl, sym, ap, _∙_}
 use mathlib.Core.Logic.{⊎-elim}
 use native.Mathlib.Nat.{eq-or-lt-of-le, le-refl, le-trans, le-of-eq}
 use native.Mathlib.Omega.{arith}
-use lib.IntN.{ℤ, pos, negsuc, negℤ, natAbs, _+ℤ_, _-ℤ_, _*ℤ_, negℤ-negℤ, -ℤ-+ℤ-cancel, *ℤ-comm}
+use lib.IntN.{ℤ, pos, negsuc, negℤ, natAbs, _+ℤ_, _-ℤ_, _*ℤ_, negℤ-+ℤ, +ℤ-assoc, +ℤ-negℤ-cancel, -ℤ-+ℤ-cancel, *ℤ-comm}
 use Rattle.laws.specs.Loops.{steps}
 use Rattle.laws.specs.Sums.{abs-add}
 use Rattle.laws.specs.Ints.{add-swap, mul-add}
@@ -27,19 +27,25 @@ abs-back a b = le-trans (le-of-eq (ap natAbs (sym (-ℤ-+ℤ-cancel a b)))) (abs
 pub neg-is : (k j : ℕ) → k ≡ suc j → negℤ (pos k) ≡ negsuc j
 neg-is k j e = rw e
 
+-- ---- rearranged
+
+pub sub-mul : (x y q : ℤ) → (x -ℤ y) *ℤ q ≡ x *ℤ q -ℤ y *ℤ q
+sub-mul x y q =
+    sym (+ℤ-negℤ-cancel ((x -ℤ y) *ℤ q) (y *ℤ q)) ∙ ap (λ (z : ℤ). z -ℤ y *ℤ q) (sym (mul-add (x -ℤ y) y q) ∙ ap (λ (z : ℤ). z *ℤ q) (-ℤ-+ℤ-cancel x y))
+
+pub sub-sums : (a b c d : ℤ) → a +ℤ b -ℤ (c +ℤ d) ≡ a -ℤ c +ℤ (b -ℤ d)
+sub-sums a b c d =
+    ap (λ (z : ℤ). a +ℤ b +ℤ z) (negℤ-+ℤ c d) ∙ sym (+ℤ-assoc (a +ℤ b) (negℤ c) (negℤ d)) ∙ ap (λ (z : ℤ). z +ℤ negℤ d) (add-swap a b (negℤ c))
+    ∙ +ℤ-assoc (a -ℤ c) b (negℤ d)
+
 -- ---- doubles
 
 pub double-add : (a b : ℤ) → pos 2 *ℤ (a +ℤ b) ≡ pos 2 *ℤ a +ℤ pos 2 *ℤ b
 double-add a b =
     *ℤ-comm (pos 2) (a +ℤ b) ∙ mul-add a b (pos 2) ∙ ap (λ (z : ℤ). z +ℤ b *ℤ pos 2) (*ℤ-comm a (pos 2)) ∙ ap (λ (z : ℤ). pos 2 *ℤ a +ℤ z) (*ℤ-comm b (pos 2))
 
-double-neg : (b : ℤ) → pos 2 *ℤ negℤ b ≡ negℤ (pos 2 *ℤ b)
-double-neg (pos zero) = refl
-double-neg (pos (suc n)) = refl
-double-neg (negsuc n) = sym (negℤ-negℤ (pos (2 * suc n)))
-
 pub double-sub : (a b : ℤ) → pos 2 *ℤ (a -ℤ b) ≡ pos 2 *ℤ a -ℤ pos 2 *ℤ b
-double-sub a b = double-add a (negℤ b) ∙ rw (double-neg b)
+double-sub a b = *ℤ-comm (pos 2) (a -ℤ b) ∙ sub-mul a b (pos 2) ∙ rw (*ℤ-comm a (pos 2), *ℤ-comm b (pos 2))
 
 -- ---- terms taken off one by one
 
@@ -57,6 +63,12 @@ module _ (t : ℕ → ℤ) where
   unfolding steps
   less-first zero l u = refl
   less-first (suc k) l u = rw (less-first k l u) (add-swap (less t k l) (negℤ u) (negℤ (t k)))
+
+  -- the first term taken off behind the others
+  pub less-front : (k : ℕ) (l : ℤ) → less t (suc k) l ≡ less (λ i. t (suc i)) k l -ℤ t 0
+  unfolding steps
+  less-front zero l = refl
+  less-front (suc k) l = ap (λ (z : ℤ). z -ℤ t (suc k)) (less-front k l) ∙ add-swap (less (λ i. t (suc i)) k l) (negℤ (t 0)) (negℤ (t (suc k)))
 
   module _ (l : ℤ) where
     less-above : (k : ℕ) → natAbs (less t k l) ≤ natAbs l + sizes t k

@@ -4,11 +4,11 @@ ghost use mathlib.Core.Path.{_≡_};
 ghost use Prim.Native.Nat.{_-_, _≤_, _<_};
 ghost use mathlib.Core.Bool.{false};
 ghost use mathlib.Core.List.{List};
-ghost use lib.IntN.{ℤ, natAbs, _*ℤ_};
+ghost use lib.IntN.{ℤ, natAbs, _-ℤ_, _*ℤ_};
 ghost use lib.Signed.{mag};
 ghost use Rattle.laws.specs.Lists.{at};
 ghost use Rattle.synth.specs.Synth.{exc-start, speech-start, excite, excitation, synth-sample, synth-overflow, synthesis, saturates, divide-by-4, reconstruct-exc, reconstruct-speech};
-ghost use Rattle.synth.specs.Fast.{weight, weights, whole-sum, Past, Reached};
+ghost use Rattle.synth.specs.Fast.{weight, weights, both, pairs, sum-behind, Past, Halves, Rounded, Sampled, Reached};
 
 // The place of the subframe's first word of excitation.
 fn exc_start(second: bool) -> usize
@@ -121,32 +121,54 @@ fn product(a: i16, b: i16) -> i64
     a as i64 * b as i64
 }
 
-// The sum of a sample with no saturation. The newest past sample, which the sum waits for, comes last, and not through memory.
-fn whole_sum(a: &[i16; 11], x: i16, newest: i16, y: &[i16; 90], n: usize) -> i64
-    requires { ⌜ newest ≡ at (now y) (n - 1) ⌝ }
-    requires { ⌜ n ≤ 90 ⌝ }
-    requires { ⌜ 10 ≤ n ⌝ }
-    ensures { λ r. ⌜ r ≡ whole-sum (now (a .entry)) x (now (y .entry)) n ⌝ }
-    ensures { λ r. ⌜ Past (now (y .entry)) n 0 ⌝ }
+// Two numbers in one: p in the low half, q in the high one.
+fn both(p: i16, q: i16) -> i64
+    ensures { λ r. ⌜ r ≡ both p q ⌝ }
+    ensures { λ r. ⌜ natAbs r ≤ 263878495760383 ⌝ }
 {
-    let mut l = product(x, a[0]);
-    for i in 0..9 {
-        let k = 10 - i;
-        l = l - product(a[k], y[n - k]);
-    }
-    l - product(a[1], newest)
+    p as i64 + q as i64 * 4294967296
 }
 
-// A sample as its whole sum rounded, for a filter so light that no operation on the way saturates if the sum ends in range.
-// Where the sum does not, the flag is set and the word says nothing.
-fn whole_sample(a: &[i16; 11], x: i16, newest: i16, y: &[i16; 90], n: usize) -> Sample
+// Both halves times c. They are no larger than the heaviest filter: 61439 times 2 ^ 32 + 1 is what both make at most.
+fn both_times(b: i64, c: i16) -> i64
+    requires { ⌜ natAbs b ≤ 263878495760383 ⌝ }
+    ensures { λ r. ⌜ r ≡ b *ℤ c ⌝ }
+{
+    b * c as i64
+}
+
+// For each k the coefficients by which the sample at n - k goes into sample n and into the one behind it.
+fn pairs(a: &[i16; 11]) -> [i64; 10]
+    ensures { λ r. ⌜ r ≡ pairs (now (a .entry)) ⌝ }
+{
+    let mut b: [i64; 10] = [0; 10];
+    for k in 0..10 {
+        b[k] = both(a[k], a[k + 1]);
+    }
+    b
+}
+
+// The sums of sample n and of the one behind it in the halves of one number, each without its products with the sample before n and with sample n.
+fn both_sums(a: &[i16; 11], b: &[i64; 10], x: i16, next: i16, y: &[i16; 90], n: usize) -> i64
+    requires { ⌜ now b ≡ pairs (now a) ⌝ }
     requires { ⌜ weights (now a) 10 ≤ 61439 ⌝ }
-    requires { ⌜ newest ≡ at (now y) (n - 1) ⌝ }
     requires { ⌜ n ≤ 90 ⌝ }
     requires { ⌜ 10 ≤ n ⌝ }
-    ensures { λ r. ⌜ (r .overflow ≡ false → (r .word ≡ synth-sample (now (a .entry)) x (now (y .entry)) n) × (false ≡ synth-overflow (now (a .entry)) x (now (y .entry)) n)) ⌝ }
+    ensures { λ r. ⌜ Halves (now (a .entry)) x next (now (y .entry)) n 1 r ⌝ }
+    ensures { λ r. ⌜ Past (now (y .entry)) n 1 ⌝ }
 {
-    let l = whole_sum(a, x, newest, y, n);
+    let mut l = both_times(both(x, next), a[0]) - product(a[10], y[n - 10]);
+    for i in 0..8 {
+        let k = 9 - i;
+        l = l - both_times(b[k], y[n - k]);
+    }
+    l
+}
+
+// A whole sum rounded to a sample. Where it is out of range, the flag is set and the word says nothing.
+fn rounded(l: i64) -> Sample
+    ensures { λ r. ⌜ (r .overflow ≡ false → Rounded l (r .word)) ⌝ }
+{
     if (l < 134215680) & (l > -134217729) {
         let word = basic_op::sar64(l + 2048, 12) as i16;
         return Sample {
@@ -160,7 +182,55 @@ fn whole_sample(a: &[i16; 11], x: i16, newest: i16, y: &[i16; 90], n: usize) -> 
     }
 }
 
-// Writes the subframe's samples by their whole sums, up to the first that may saturate, and says how many. The plain form has a loop
+// A sample, whether its sum is out of range, and the sum of the sample behind it without their product.
+struct First {
+    word: i16,
+    overflow: bool,
+    behind: i64,
+}
+
+// The first of two samples, for a filter so light that no operation on the way saturates if the sum ends in range. The newest past sample, which
+// both sums wait for, comes last, and not through memory.
+fn first_of_two(
+    a: &[i16; 11],
+    b: &[i64; 10],
+    x: i16,
+    next: i16,
+    newest: i16,
+    y: &[i16; 90],
+    n: usize,
+) -> First
+    requires { ⌜ now b ≡ pairs (now a) ⌝ }
+    requires { ⌜ weights (now a) 10 ≤ 61439 ⌝ }
+    requires { ⌜ newest ≡ at (now y) (n - 1) ⌝ }
+    requires { ⌜ n ≤ 90 ⌝ }
+    requires { ⌜ 10 ≤ n ⌝ }
+    ensures { λ r. ⌜ (r .overflow ≡ false → Sampled (now (a .entry)) x (now (y .entry)) n (r .word)) ⌝ }
+    ensures { λ r. ⌜ r .behind ≡ sum-behind (now (a .entry)) next (now (y .entry)) n ⌝ }
+    ensures { λ r. ⌜ mag (r .behind) < 8589934592 ⌝ }
+    ensures { λ r. ⌜ Past (now (y .entry)) n 0 ⌝ }
+{
+    let sums = both_sums(a, b, x, next, y, n);
+    let high = basic_op::sar64(sums + 2147483648, 32);
+    let low = sums - high * 4294967296;
+    let behind = high - product(a[2], newest);
+    let s = rounded(low - product(a[1], newest));
+    First {
+        word: s.word,
+        overflow: s.overflow,
+        behind,
+    }
+}
+
+// The second: its sum waits for the first alone.
+fn second_of_two(a: &[i16; 11], behind: i64, first: i16) -> Sample
+    requires { ⌜ mag behind < 8589934592 ⌝ }
+    ensures { λ r. ⌜ (r .overflow ≡ false → Rounded (behind -ℤ at (now (a .entry)) 1 *ℤ first) (r .word)) ⌝ }
+{
+    rounded(behind - product(a[1], first))
+}
+
+// Writes the subframe's samples by their whole sums, two a turn, up to the first that may saturate, and says how many. The plain form has a loop
 // of its own, since with both in one the compiler runs out of registers.
 fn whole_samples(a: &[i16; 11], exc: &[i16; 234], second: bool, speech: &mut [i16; 90]) -> usize
     ensures { λ r. ⌜ r ≤ 40 ⌝ }
@@ -171,15 +241,32 @@ fn whole_samples(a: &[i16; 11], exc: &[i16; 234], second: bool, speech: &mut [i1
     if weights(a) > 61439 {
         return 0;
     }
+    let b = pairs(a);
     let mut newest = speech[start - 1];
-    for n in 0..40 {
-        let s = whole_sample(a, exc[from + n], newest, speech, start + n);
+    for i in 0..20 {
+        let n = i + i;
+        let s = first_of_two(
+            a,
+            &b,
+            exc[from + n],
+            exc[from + (n + 1)],
+            newest,
+            speech,
+            start + n,
+        );
         if s.overflow {
             return n;
         }
         let word = s.word;
+        let behind = s.behind;
         speech[start + n] = word;
-        newest = speech[start + n];
+        let t = second_of_two(a, behind, speech[start + n]);
+        if t.overflow {
+            return n + 1;
+        }
+        let next = t.word;
+        speech[start + (n + 1)] = next;
+        newest = speech[start + (n + 1)];
     }
     40
 }
