@@ -214,12 +214,14 @@ module _ (a : List ℤ) (x : ℤ) (y : List ℤ) (n : ℕ) (light : weights a 10
 
 -- the second of two, when the first is written; b and v are what the code holds
 module _ (a : List ℤ) (u : ℤ) (y : List ℤ) (n : ℕ) (w : ℤ) (from : 10 ≤ n) (light : weights a 10 ≤ 61439) (word : natAbs u ≤ 32768) (past : Past y n 0) (first : natAbs (at (set y n w) n) ≤ 32768) where
-  pub sampled-next : (m : ℕ) → m ≡ n + 1 → (b c v r : ℤ) → b ≡ c → c ≡ sum-behind a u y n → v ≡ at (set y n w) n → Rounded (b -ℤ at a 1 *ℤ v) r → Sampled a u (set y n w) m r
-  sampled-next m d b c v r g e f q =
-      rw d (sampled a u (set y n w) (n + 1) light word (past-next a u y n w from past first) (b -ℤ at a 1 *ℤ v) r (rw (g, e, f) (sym (sum-next a u y n w from))) q)
+  pub sampled-next : (b c v r : ℤ) → b ≡ c → c ≡ sum-behind a u y n → v ≡ at (set y n w) n → Rounded (b -ℤ at a 1 *ℤ v) r → Sampled a u (set y n w) (n + 1) r
+  sampled-next b c v r g e f q =
+      sampled a u (set y n w) (n + 1) light word (past-next a u y n w from past first) (b -ℤ at a 1 *ℤ v) r (rw (g, e, f) (sym (sum-next a u y n w from))) q
 
--- ---- one sample more of the subframe; t is its word read back
+-- ---- one sample more of the subframe, written at p; t is its word read back
 
-pub reached-turn : (second : Bool) (a exc speech : List ℤ) (n : ℕ) {from start : ℕ} {x : ℤ} {y : List ℤ} → from ≡ exc-start second → start ≡ speech-start second → x ≡ at exc (from + n)
-    → Reached second a exc speech y false n → {w t : ℤ} → t ≡ w → Sampled a x y (start + n) w → Reached second a exc speech (set y (start + n) t) false (n + 1)
-reached-turn second a exc speech n d e f r q s = (samples-turn second a exc speech n d e f (r .0) q (s .0), saturates-turn second a exc speech n d e f (r .0) (r .1) (s .1))
+pub reached-turn : (second : Bool) (a exc speech : List ℤ) (n : ℕ) {from start p q : ℕ} {x : ℤ} {y : List ℤ} → from ≡ exc-start second → start ≡ speech-start second → q ≡ from + n → p ≡ start + n → x ≡ at exc q
+    → Reached second a exc speech y false n → {w t : ℤ} → t ≡ w → Sampled a x y p w → Reached second a exc speech (set y p t) false (n + 1)
+reached-turn second a exc speech n d e g h f r b s =
+    let k = f ∙ ap (at exc) g in
+    rw h (samples-turn second a exc speech n d e k (r .0) b (rw h at (s .0)), saturates-turn second a exc speech n d e k (r .0) (r .1) (rw h at (s .1)))

@@ -245,28 +245,22 @@ fn whole_samples(a: &[i16; 11], exc: &[i16; 234], second: bool, speech: &mut [i1
     let mut newest = speech[start - 1];
     for i in 0..20 {
         let n = i + i;
-        let s = first_of_two(
-            a,
-            &b,
-            exc[from + n],
-            exc[from + (n + 1)],
-            newest,
-            speech,
-            start + n,
-        );
+        let k = start + n;
+        let m = from + n;
+        let s = first_of_two(a, &b, exc[m], exc[m + 1], newest, speech, k);
         if s.overflow {
             return n;
         }
         let word = s.word;
         let behind = s.behind;
-        speech[start + n] = word;
-        let t = second_of_two(a, behind, speech[start + n]);
+        speech[k] = word;
+        let t = second_of_two(a, behind, speech[k]);
         if t.overflow {
             return n + 1;
         }
         let next = t.word;
-        speech[start + (n + 1)] = next;
-        newest = speech[start + (n + 1)];
+        speech[k + 1] = next;
+        newest = speech[k + 1];
     }
     40
 }

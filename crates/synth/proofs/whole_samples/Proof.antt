@@ -1,6 +1,6 @@
 -- `synth::whole_samples` meets its contract: before turn i the first 2 i samples are written, none of them saturates, and `newest` is the last of them.
-use Prim.Native.Nat.{ℕ, _+_, _-_, _≤_}
-use mathlib.Core.Path.{_≡_, _∙_}
+use Prim.Native.Nat.{ℕ, _+_, _-_, _≤_, _<_}
+use mathlib.Core.Path.{_≡_, refl}
 use mathlib.Core.Bool.{false}
 use mathlib.Core.List.{List}
 use native.Mathlib.Omega.{arith}
@@ -50,13 +50,32 @@ second-of-two-requires c κs =
     let m = c .before .before .before .before in
     rw (behind m) (m .first-of-two .ensures .1 .1 .0)
 
+-- the places of a turn, over plain numbers
+twice : (i : ℕ) → i + 1 + (i + 1) ≡ i + i + 1 + 1
+twice i = omega arith
+
+beyond : (s i : ℕ) → s + (i + i) + 1 ≡ s + (i + i + 1)
+beyond s i = omega arith
+
+last : (s i : ℕ) → s + (i + 1 + (i + 1)) - 1 ≡ s + (i + i) + 1
+last s i = omega arith
+
+behind-start : (s i : ℕ) → 10 ≤ s → 10 ≤ s + (i + i)
+behind-start s i h = omega arith
+
+one-more : (i n : ℕ) → i < n → i + 1 ≤ n
+one-more i n h = omega arith
+
 abbrev head : tie.After-struct-told2 Inv-loop μ-loop → tie.At-loop Inv-loop μ-loop
 head c = c .before .before .before .before .before .before .before .before .before
 
 abbrev entry : tie.At-loop Inv-loop μ-loop → tie.Start Inv-loop μ-loop
 entry l = l .before .before .before .before .before .before .before
 
--- the place of the first of the two, and the speech when it is written
+-- the places of the first of the two, and the speech when it is written
+abbrev source : tie.At-loop Inv-loop μ-loop → ℕ
+source l = l .before .before .before .before .before .before .exc-start .result + (l .loop .i + l .loop .i)
+
 abbrev place : tie.At-loop Inv-loop μ-loop → ℕ
 place l = l .before .before .before .before .before .speech-start .result + (l .loop .i + l .loop .i)
 
@@ -70,23 +89,21 @@ once c =
     let l = head c in
     let p = l .before .before .before .before .before in
     let n = l .loop .i + l .loop .i in
-    reached-turn _ _ _ _ n (p .before .exc-start .ensures .0) (p .speech-start .ensures .0) (via w16 _ (m .before .before .before .first-of-two-arg .given)) (l .loop .inv .1 .0) (via w16 _ (c .before .struct-told .given .0 .1)) (m .first-of-two .ensures .0 (c .before .before .if2 .left))
+    reached-turn _ _ _ _ n (p .before .exc-start .ensures .0) (p .speech-start .ensures .0) refl refl (via w16 _ (m .before .before .before .first-of-two-arg .given)) (l .loop .inv .1 .0) (via w16 _ (c .before .struct-told .given .0 .1)) (m .first-of-two .ensures .0 (c .before .before .if2 .left))
 
 -- the second of the two
 next-sampled : (c : tie.Else3 Inv-loop μ-loop)
-    → Sampled (entry (head (c .before .before .before)) .args .a .now) (toZ w16 (ofZ w16 (at (entry (head (c .before .before .before)) .args .exc .now) (head (c .before .before .before) .before .before .before .before .before .before .exc-start .result + (head (c .before .before .before) .loop .i + head (c .before .before .before) .loop .i + 1))))) (written (c .before .before .before)) (head (c .before .before .before) .before .before .before .before .before .speech-start .result + (head (c .before .before .before) .loop .i + head (c .before .before .before) .loop .i + 1)) (c .before .second-of-two .result .word)
+    → Sampled (entry (head (c .before .before .before)) .args .a .now) (toZ w16 (ofZ w16 (at (entry (head (c .before .before .before)) .args .exc .now) (source (head (c .before .before .before)) + 1)))) (written (c .before .before .before)) (place (head (c .before .before .before)) + 1) (c .before .second-of-two .result .word)
 next-sampled c =
     let t = c .before .before .before in
     let m = t .before .before .before in
     let l = head t in
     let s = entry l in
-    let x = at (s .args .exc .now) (l .before .before .before .before .before .before .exc-start .result + (l .loop .i + l .loop .i + 1)) in
+    let x = at (s .args .exc .now) (source l + 1) in
     let u = m .before .before .first-of-two-arg2 .given in
     let v = c .before .before .second-of-two-arg .given in
-    let ev = via w16 (at (written t) (place l)) v in
     let q = m .first-of-two .ensures in
-    let from : 10 ≤ place l = omega (arith, l .before .before .before .before .before .speech-start .ensures .1 .1) in
-    sampled-next (s .args .a .now) (toZ w16 (ofZ w16 x)) (l .loop .speech) (place l) _ from (light (l .before .before .before)) (rw (via w16 x u) (natAbs-le x u)) (q .1 .1 .1) (natAbs-le (at (written t) (place l)) v) _ (omega arith) _ _ _ _ (behind m) (q .1 .0) ev (c .before .second-of-two .ensures (c .if3 .left))
+    sampled-next (s .args .a .now) (toZ w16 (ofZ w16 x)) (l .loop .speech) (place l) _ (behind-start _ (l .loop .i) (l .before .before .before .before .before .speech-start .ensures .1 .1)) (light (l .before .before .before)) (rw (via w16 x u) (natAbs-le x u)) (q .1 .1 .1) (natAbs-le (at (written t) (place l)) v) _ _ _ _ (behind m) (q .1 .0) (via w16 (at (written t) (place l)) v) (c .before .second-of-two .ensures (c .if3 .left))
 
 returns-2 : tie.Need-returns-2 Inv-loop μ-loop
 returns-2 c =
@@ -103,13 +120,11 @@ loop-again c =
     let m = t .before .before .before in
     let l = head t in
     let i = l .loop .i in
-    let p = l .before .before .before .before .before in
-    let d : i + 1 + (i + 1) ≡ i + i + 1 + 1 = omega arith in
-    let k : p .speech-start .result + (i + 1 + (i + 1)) - 1 ≡ p .speech-start .result + (i + i + 1) = omega arith in (
-      omega (arith, m .before .before .before .before .before .loop-test .taken),
+    let p = l .before .before .before .before .before in (
+      one-more i 20 (m .before .before .before .before .before .loop-test .taken),
       (
-        rw d (reached-turn _ _ _ _ (i + i + 1) (p .before .exc-start .ensures .0) (p .speech-start .ensures .0) (via w16 _ (m .before .before .first-of-two-arg2 .given)) (once t) (via w16 _ (c .before .struct-told3 .given .0 .1)) (next-sampled e)),
-        rw k (via w16 _ (c .newest2 .given)),
+        rw (twice i) (reached-turn _ _ _ _ (i + i + 1) (p .before .exc-start .ensures .0) (p .speech-start .ensures .0) (beyond _ i) (beyond _ i) (via w16 _ (m .before .before .first-of-two-arg2 .given)) (once t) (via w16 _ (c .before .struct-told3 .given .0 .1)) (next-sampled e)),
+        rw (last (p .speech-start .result) i) (via w16 _ (c .newest2 .given)),
       ),
     )
 
@@ -141,11 +156,8 @@ whole-samples-spec =
     (λ c. omega arith)
     (λ c. omega arith)
     (λ c. omega arith)
-    (λ c. omega arith)
     first-of-two-requires
     returns-2
-    (λ c. omega arith)
-    (λ c. omega arith)
     (λ c. omega arith)
     (λ c. omega arith)
     (λ c. omega arith)
@@ -153,8 +165,6 @@ whole-samples-spec =
     second-of-two-requires
     (λ c. omega arith)
     returns-3
-    (λ c. omega arith)
-    (λ c. omega arith)
     (λ c. omega arith)
     (λ c. omega arith)
     (λ c. omega arith)
