@@ -281,16 +281,16 @@ whole t l job =
 pub begin-is : (file : List ℕ) (t b : List ℤ) → length t ≡ 1880 → length b ≡ 234
     → begin file t b
     ≡ cond (eqb (length file) 3760)
-    (cond (eqb (table-check (words file)) 0) (begun 0 (words file) (fresh-job (words file) .block)) (begun (table-check (words file)) (words file) b))
+    (cond (eqb (table-check (words file)) 0) (begun 0 (words file) (fresh-job (words file) .block)) (begun (table-check (words file)) t b))
     (begun 1 t b)
 unfolding begin with-state State.fresh-state fresh-job
-begin-is file t b ht hb = rw (eq-eqb (length t) 1880 ht, eq-eqb (length b) 234 hb) (by (eqb (length file) 3760) (eqb (table-check (words file)) 0))
+begin-is file t b ht hb = rw (eq-eqb (length t) 1880 ht, eq-eqb (length b) 234 hb) (by (eqb (length file) 3760) (eqb (table-check (words file)) 0) refl)
   where
     w : List ℤ
     w = words file
 
-    by : (p q : Bool) → cond (p && true) (with-state w (cond q (State.answer 0 (State.write (State.fresh w))) (State.answer (table-check w) b))) (begun 1 t b)
-        ≡ cond p (cond q (begun 0 w (State.write (State.fresh w))) (begun (table-check w) w b)) (begun 1 t b)
-    by true true = refl
-    by true false = refl
-    by false q = refl
+    by : (p q : Bool) → eqb (table-check w) 0 ≡ q → cond (p && true) (with-state t w (cond q (State.answer 0 (State.write (State.fresh w))) (State.answer (table-check w) b))) (begun 1 t b)
+        ≡ cond p (cond q (begun 0 w (State.write (State.fresh w))) (begun (table-check w) t b)) (begun 1 t b)
+    by true true e = refl
+    by true false e = rw e
+    by false q e = refl

@@ -193,7 +193,7 @@ pub fn keep(input: &mut [u8], from: usize, to: usize) -> usize
     n
 }
 
-// Begins a call from the bytes of the table file: the tables and the fresh state.
+// Begins a call from the bytes of the table file: the tables and the fresh state. A refusal leaves both blocks as they were.
 pub fn begin(file: &[u8], t: &mut [i16], b: &mut [i16]) -> u32
     ensures { λ r. ⌜ Begun.begun r (now (t .exit)) (now (b .exit)) ≡ begin (now (file .entry)) (now (t .entry)) (now (b .entry)) ⌝ }
 {
@@ -203,6 +203,12 @@ pub fn begin(file: &[u8], t: &mut [i16], b: &mut [i16]) -> u32
     if t.len() != 1880 {
         return 1;
     }
+    let mut tables = [0i16; 1880];
+    words::from_bytes(file, &mut tables);
+    let fresh = state::fresh_state(&tables, b);
+    if fresh != 0 {
+        return fresh;
+    }
     words::from_bytes(file, t);
-    state::fresh_state(t, b)
+    fresh
 }
