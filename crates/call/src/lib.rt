@@ -111,30 +111,24 @@ pub fn lines(t: &[i16], b: &mut [i16], from: Counted, input: &[u8], out: &mut [u
     while 327 <= out.len() - written {
         let end = line_end(input, used);
         if end == input.len() {
-            return Taken {
-                job: Counted { code: 0, counts },
-                used,
-                written,
-            };
+            let job = Counted { code: 0, counts };
+            return Taken { job, used, written };
         }
-        let next = line_step(t, b, counts, &input[used..end], &mut text);
+        let step = line_step(t, b, counts, &input[used..end], &mut text);
         used = end + 1;
-        if next.code != 0 {
+        if step.code != 0 {
             return Taken {
-                job: next,
+                job: step,
                 used,
                 written,
             };
         }
-        counts = next.counts;
+        counts = step.counts;
         copy(&text, out, written);
         written += 327;
     }
-    Taken {
-        job: Counted { code: 0, counts },
-        used,
-        written,
-    }
+    let job = Counted { code: 0, counts };
+    Taken { job, used, written }
 }
 
 // More than 36 bytes held without a line feed are no line, whatever follows: 9, unless the call has ended.
