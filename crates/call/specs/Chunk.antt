@@ -71,9 +71,10 @@ overlong l code = cond (eqb code 0 && ltb 36 (to-feed l)) 9 code
 pub data Begun : Type 0 where
   begun : ℕ → List ℤ → List ℤ → Begun
 
-unfoldable pub with-state : List ℤ → State.Answer → Begun
-with-state t (State.answer code b) = begun code t b
+-- the words of the file are in t′, and are left in t where Fresh state took them
+unfoldable pub with-state : List ℤ → List ℤ → State.Answer → Begun
+with-state t t′ (State.answer code b) = begun code (cond (eqb code 0) t′ t) b
 
--- 1: not 3,760 bytes, or not 1,880 words lent for them. 2: the table check, 3: not 234 words lent for the state; the words of the file are then there
+-- 1: not 3,760 bytes, or not 1,880 words lent for them. 2: the table check. 3: not 234 words lent for the state. A refusal leaves both blocks as they were.
 unfoldable pub begin : List ℕ → List ℤ → List ℤ → Begun
-begin file t b = cond (eqb (length file) 3760 && eqb (length t) 1880) (with-state (words file) (State.fresh-state (words file) b)) (begun 1 t b)
+begin file t b = cond (eqb (length file) 3760 && eqb (length t) 1880) (with-state t (words file) (State.fresh-state (words file) b)) (begun 1 t b)

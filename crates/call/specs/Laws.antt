@@ -2,7 +2,7 @@
 use mathlib.Core.Path.{_≡_, refl, ap, sym, _∙_}
 use mathlib.Core.Bool.{Bool, true, false, cond, _&&_}
 use mathlib.Core.List.{List, [], _∷_, _++_, append-assoc, append-nil}
-use Prim.Native.Nat.{ℕ, zero, suc, _+_, _-_, _*_, _/_, _≤_, _<_, min}
+use Prim.Native.Nat.{ℕ, zero, suc, _+_, _-_, _*_, _≤_, _<_, min}
 use native.Mathlib.Omega.{arith}
 use native.Mathlib.Numerals.{add-one}
 use native.Mathlib.Nat.{sub-zero, zero-add, add-comm}
@@ -372,13 +372,20 @@ module _ (file : List ℕ) (t b : List ℤ) where
   unfolding begin
   begin-room e h = rw (eq-eqb (length file) 3760 e, ne-eqb (length t) 1880 h)
 
-  module _ (e : length file ≡ 3760) (g : length t ≡ 1880) {t′ : List ℤ} (h : t′ ≡ Words.from-bytes file t) where
-    tables-are : t′ ≡ Words.words file
-    unfolding Words.from-bytes
-    tables-are =
-        let n : min (length file / 2) (length t) ≡ 1880 = omega arith in
-        h ∙ rw (n, take-all 1880 (Words.words file) (rw WordsLaws.length-words (omega arith)), drop-of-length-le t {i = 1880} (omega arith)) (append-nil (Words.words file))
+  -- the words of the file, in any block of 1,880 words
+  tables-are : (l : List ℤ) {t′ : List ℤ} → length file ≡ 3760 → length l ≡ 1880 → t′ ≡ Words.from-bytes file l → t′ ≡ Words.words file
+  tables-are l e g h = h ∙ WordsLaws.from-whole file l (omega arith)
 
-    pub begin-done : {code : ℕ} {b′ : List ℤ} → State.answer code b′ ≡ State.fresh-state t′ b → begun code t′ b′ ≡ begin file t b
-    unfolding begin with-state
-    begin-done q = rw (eq-eqb (length file) 3760 e, eq-eqb (length t) 1880 g, ← tables-are, ← q)
+  module _ (e : length file ≡ 3760) (g : length t ≡ 1880) (l : List ℤ) {t′ b′ : List ℤ} {code : ℕ} (n : length l ≡ 1880) (h : t′ ≡ Words.from-bytes file l)
+      (q : State.answer code b′ ≡ State.fresh-state t′ b) where
+    begin-is-fresh : with-state t (Words.words file) (State.answer code b′) ≡ begin file t b
+    unfolding begin
+    begin-is-fresh = rw (eq-eqb (length file) 3760 e, eq-eqb (length t) 1880 g, ← tables-are l e n h, ← q)
+
+    pub begin-refused : (code ≡ 0 → ⊥) → begun code t b′ ≡ begin file t b
+    unfolding with-state
+    begin-refused z = sym (rw (ne-eqb code 0 z)) ∙ begin-is-fresh
+
+    pub begin-done : {t″ : List ℤ} → code ≡ 0 → t″ ≡ Words.from-bytes file t → begun code t″ b′ ≡ begin file t b
+    unfolding with-state
+    begin-done z k = rw (tables-are t e g k) (rw (eq-eqb code 0 z) at begin-is-fresh)

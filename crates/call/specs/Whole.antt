@@ -1,4 +1,5 @@
--- However a call's text is cut into reads, and whatever room its output has, what is written, one part behind the other, is `printed` of the whole text: `whole`. Assumes nothing.
+-- However a call's text is cut into reads, and whatever room its output has, what is written, one part behind the other, is `printed` of the whole text: `whole`; and with the tables,
+-- `output` of the table file and the text: `program`. Assumes nothing.
 use mathlib.Core.Path.{_≡_, refl, ap, sym, _∙_}
 use mathlib.Core.Bool.{Bool, true, false, cond, _&&_}
 use mathlib.Core.List.{List, [], _∷_, _++_, append-assoc, append-nil}
@@ -10,14 +11,15 @@ use lib.IntN.{ℤ}
 use lib.ListN.{length, take, drop, replicate, length-append, take-append-drop}
 use lib.Seq.{append-snoc, take-append-seam, drop-append-add}
 use borrow.Author.Tests.{eq-eqb, ne-eqb, eqb-true, eqb-false, ltb-true}
+use Rattle.count.specs.declared.Counted.{Counted}
 use Rattle.line.specs.Line as Line
 use Rattle.line.specs.Laws.{other-length}
 use Rattle.print.specs.Print.{refused, over}
 use Rattle.state.specs.State as State
 use Rattle.tables.specs.Layout.{table-check}
 use Rattle.words.specs.Words.{words}
-use Rattle.call.specs.Call.{Job, Step, stop, line-step, line-number, last-form, printed, fresh-job}
-use Rattle.call.specs.Chunk.{Part, none, behind, goes-on, part, answer, given, lines, to-feed, overlong, begun, with-state, begin}
+use Rattle.call.specs.Call.{Job, Step, stop, line-step, line-number, last-form, printed, fresh-job, file-check, output}
+use Rattle.call.specs.Chunk.{Part, none, behind, goes-on, part, kept, answer, given, lines, to-feed, overlong, begun, with-state, begin}
 use Rattle.call.specs.Laws.{not-line}
 
 -- ---- what is done with a call, in any order, and what is then held
@@ -281,16 +283,72 @@ whole t l job =
 pub begin-is : (file : List ℕ) (t b : List ℤ) → length t ≡ 1880 → length b ≡ 234
     → begin file t b
     ≡ cond (eqb (length file) 3760)
-    (cond (eqb (table-check (words file)) 0) (begun 0 (words file) (fresh-job (words file) .block)) (begun (table-check (words file)) (words file) b))
+    (cond (eqb (table-check (words file)) 0) (begun 0 (words file) (fresh-job (words file) .block)) (begun (table-check (words file)) t b))
     (begun 1 t b)
 unfolding begin with-state State.fresh-state fresh-job
-begin-is file t b ht hb = rw (eq-eqb (length t) 1880 ht, eq-eqb (length b) 234 hb) (by (eqb (length file) 3760) (eqb (table-check (words file)) 0))
+begin-is file t b ht hb = rw (eq-eqb (length t) 1880 ht, eq-eqb (length b) 234 hb) (by (eqb (length file) 3760) (eqb (table-check (words file)) 0) refl)
   where
     w : List ℤ
     w = words file
 
-    by : (p q : Bool) → cond (p && true) (with-state w (cond q (State.answer 0 (State.write (State.fresh w))) (State.answer (table-check w) b))) (begun 1 t b)
-        ≡ cond p (cond q (begun 0 w (State.write (State.fresh w))) (begun (table-check w) w b)) (begun 1 t b)
-    by true true = refl
-    by true false = refl
-    by false q = refl
+    by : (p q : Bool) → eqb (table-check w) 0 ≡ q → cond (p && true) (with-state t w (cond q (State.answer 0 (State.write (State.fresh w))) (State.answer (table-check w) b))) (begun 1 t b)
+        ≡ cond p (cond q (begun 0 w (State.write (State.fresh w))) (begun (table-check w) t b)) (begun 1 t b)
+    by true true e = refl
+    by true false e = rw e
+    by false q e = refl
+
+-- ---- the program
+
+-- a call begins with nothing counted
+unfoldable pub nothing : Counted
+nothing = record { code = 0; counts = record { frames = 0; lost = 0 } }
+
+-- what `begin` answers is the check of the file, and what it leaves where that is 0 begins the call
+begun-is : (file : List ℕ) (t₀ b₀ : List ℤ) {code : ℕ} {t b : List ℤ} → length t₀ ≡ 1880 → length b₀ ≡ 234 → begun code t b ≡ begin file t₀ b₀
+    → (file-check file ≡ code) × (code ≡ 0 → (t ≡ words file) × (kept b nothing ≡ fresh-job (words file)))
+unfolding file-check kept nothing fresh-job
+begun-is file t₀ b₀ {code} {t} {b} ht hb e = by (eqb (length file) 3760) (eqb (table-check w) 0) refl (e ∙ begin-is file t₀ b₀ ht hb)
+  where
+    w : List ℤ
+    w = words file
+
+    by : (p q : Bool) → eqb (table-check w) 0 ≡ q
+        → begun code t b ≡ cond p (cond q (begun 0 w (fresh-job w .block)) (begun (table-check w) t₀ b₀)) (begun 1 t₀ b₀)
+        → (cond p (table-check w) 1 ≡ code) × (code ≡ 0 → (t ≡ w) × (kept b nothing ≡ fresh-job w))
+    by true true g f =
+        let hc : code ≡ 0 = cc in
+        let hw : t ≡ w = cc in
+        let hs : b ≡ State.write (State.fresh w) = cc in
+        (eqb-true (table-check w) 0 g ∙ sym hc, λ z. (hw, rw hs))
+    by true false g f =
+        let hc : code ≡ table-check w = cc in
+        (sym hc, λ z. absurd (eqb-false (table-check w) 0 g (sym hc ∙ z)))
+    by false q g f =
+        let hc : code ≡ 1 = cc in
+        (sym hc, λ z. absurd (omega arith))
+
+-- what is written and the last form are `output` of the table file and the text
+pub record Program (file : List ℕ) (code : ℕ) (l : List Act) (h : Held) : Type 0 where
+  -- where the tables are refused, whatever the text is
+  pub no-tables : (code ≡ 0 → ⊥) → (text : List ℕ) → refused code 0 ≡ output file text
+  -- where the text has ended, and no whole line is held
+  pub at-end : code ≡ 0 → to-feed (h .bytes) ≡ length (h .bytes) → h .written ++ last-of (h .job) (h .bytes) ≡ output file (text-of l)
+  -- where a line was refused, whatever follows
+  pub at-refusal : code ≡ 0 → (h .job .code ≡ 0 → ⊥) → (rest : List ℕ) → h .written ++ last-of (h .job) (h .bytes) ≡ output file (text-of l ++ rest)
+
+-- code, t and b are what `call::begin` answers and leaves in blocks of the right lengths
+pub program : (file : List ℕ) (t₀ b₀ : List ℤ) {code : ℕ} {t b : List ℤ} (l : List Act) → length t₀ ≡ 1880 → length b₀ ≡ 234 → begun code t b ≡ begin file t₀ b₀
+    → Program file code l (acts t l (record { job = kept b nothing; bytes = []; written = [] }))
+unfolding output
+program file t₀ b₀ {code} {t} {b} l ht hb e =
+    record {
+      no-tables = λ n text. rw (f .0, ne-eqb code 0 n);
+      at-end = λ z q. whole t l (kept b nothing) .at-end q ∙ same z (text-of l);
+      at-refusal = λ z n rest. whole t l (kept b nothing) .at-refusal n rest ∙ same z (text-of l ++ rest);
+    }
+  where
+    f : (file-check file ≡ code) × (code ≡ 0 → (t ≡ words file) × (kept b nothing ≡ fresh-job (words file)))
+    f = begun-is file t₀ b₀ ht hb e
+
+    same : code ≡ 0 → (x : List ℕ) → printed t (kept b nothing) [] x ≡ output file x
+    same z x = rw (f .0, eq-eqb code 0 z, f .1 z .0, f .1 z .1)

@@ -111,30 +111,24 @@ pub fn lines(t: &[i16], b: &mut [i16], from: Counted, input: &[u8], out: &mut [u
     while 327 <= out.len() - written {
         let end = line_end(input, used);
         if end == input.len() {
-            return Taken {
-                job: Counted { code: 0, counts },
-                used,
-                written,
-            };
+            let job = Counted { code: 0, counts };
+            return Taken { job, used, written };
         }
-        let next = line_step(t, b, counts, &input[used..end], &mut text);
+        let step = line_step(t, b, counts, &input[used..end], &mut text);
         used = end + 1;
-        if next.code != 0 {
+        if step.code != 0 {
             return Taken {
-                job: next,
+                job: step,
                 used,
                 written,
             };
         }
-        counts = next.counts;
+        counts = step.counts;
         copy(&text, out, written);
         written += 327;
     }
-    Taken {
-        job: Counted { code: 0, counts },
-        used,
-        written,
-    }
+    let job = Counted { code: 0, counts };
+    Taken { job, used, written }
 }
 
 // More than 36 bytes held without a line feed are no line, whatever follows: 9, unless the call has ended.
@@ -193,7 +187,7 @@ pub fn keep(input: &mut [u8], from: usize, to: usize) -> usize
     n
 }
 
-// Begins a call from the bytes of the table file: the tables and the fresh state.
+// Begins a call from the bytes of the table file: the tables and the fresh state. A refusal leaves both blocks as they were.
 pub fn begin(file: &[u8], t: &mut [i16], b: &mut [i16]) -> u32
     ensures { λ r. ⌜ Begun.begun r (now (t .exit)) (now (b .exit)) ≡ begin (now (file .entry)) (now (t .entry)) (now (b .entry)) ⌝ }
 {
@@ -203,6 +197,12 @@ pub fn begin(file: &[u8], t: &mut [i16], b: &mut [i16]) -> u32
     if t.len() != 1880 {
         return 1;
     }
+    let mut tables = [0i16; 1880];
+    words::from_bytes(file, &mut tables);
+    let fresh = state::fresh_state(&tables, b);
+    if fresh != 0 {
+        return fresh;
+    }
     words::from_bytes(file, t);
-    state::fresh_state(t, b)
+    fresh
 }

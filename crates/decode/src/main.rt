@@ -13,7 +13,7 @@ struct Place {
     from: usize,
     to: usize,
     more: bool,
-    // False where standard output could not be written.
+    // False where standard input could not be read, or standard output not written.
     good: bool,
 }
 
@@ -34,19 +34,29 @@ fn write_form(form: &[u8; 46], n: usize) -> bool
     write(&text[0..n])
 }
 
-// Reads on behind the bytes that are kept. A read that fails is the end of the text.
+// Whether a read was good; where it failed, a message on standard error.
+fn good_read(answer: isize) -> bool {
+    if answer < 0 {
+        os::fail(b"standard input");
+        return false;
+    }
+    true
+}
+
+// Reads on behind the bytes that are kept. Nothing goes on behind a read that failed.
 fn read(job: Counted, from: usize, to: usize, input: &mut [u8]) -> Place
     ensures { λ r. ⌜ (r .from ≤ r .to) × (r .to ≤ length (now (input .entry))) ⌝ }
 {
     let kept = call::keep(input, from, to);
     let answer = libc::read(STDIN_FILENO, &mut input[kept..]);
+    let good = good_read(answer);
     let got = io::count(answer, &input[kept..]);
     Place {
         job,
         from: 0,
         to: kept + got,
         more: 0 < got,
-        good: true,
+        good,
     }
 }
 
@@ -86,7 +96,7 @@ fn rest(most: u32, more: bool) -> u32
     if more { most - 1 } else { 0 }
 }
 
-// The last form, unless standard output could not be written.
+// The last form, unless standard input or output failed.
 fn end(p: Place, input: &[u8])
     requires { ⌜ (p .from ≤ p .to) × (p .to ≤ length (now input)) ⌝ }
 {

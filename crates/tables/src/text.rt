@@ -2,22 +2,12 @@
 
 // beta lower bound 0.2, Q14 (clause 3.8, equation (47)).
 pub const PITCH_SHARPENING_MIN: i16 = 3277;
-// Minimum integer pitch delay (clause 3.7).
-pub const PITCH_DELAY_MIN: i16 = 20;
-// Maximum integer pitch delay (clause 3.7).
-pub const PITCH_DELAY_MAX: i16 = 143;
-// -1.0 in Q13, a negative pulse (clause 3.8).
-pub const FIXED_CODEBOOK_PULSE_NEGATIVE: i16 = -8192;
 // 0.9 in Q15 (equation (94)).
 pub const ERASURE_PITCH_GAIN_ATTENUATION: i16 = 29491;
 // 4 dB in Q10 (equation (95)).
 pub const ERASURE_GAIN_MEMORY_OFFSET: i16 = 4096;
 // -14 dB in Q10 (equation (95)).
 pub const ERASURE_GAIN_MEMORY_FLOOR: i16 = -14336;
-// Multiplier of equation (96).
-pub const RANDOM_MULTIPLIER: i16 = 31821;
-// Increment of equation (96).
-pub const RANDOM_INCREMENT: i16 = 13849;
 // Initial seed, clause 4.4.4.
 pub const ERASURE_RANDOM_SEED_INITIAL: i16 = 21845;
 // J = 0.0012 in Q13 (clause 3.2.4).
