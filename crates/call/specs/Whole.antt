@@ -73,7 +73,7 @@ printed-ended t job held [] h = refl
 printed-ended t job held (b ∷ text) h = rw (ne-eqb (job .code) 0 h)
 
 -- a line's bytes without its line feed
-feedless-rest : (b : ℕ) (l : List ℕ) → to-feed (b ∷ l) ≡ length (b ∷ l) → (eqb b 10 ≡ false) × (to-feed l ≡ length l)
+pub feedless-rest : (b : ℕ) (l : List ℕ) → to-feed (b ∷ l) ≡ length (b ∷ l) → (eqb b 10 ≡ false) × (to-feed l ≡ length l)
 unfolding to-feed
 feedless-rest b l = by (eqb b 10)
   where
@@ -81,14 +81,14 @@ feedless-rest b l = by (eqb b 10)
     by true e = absurd (omega arith)
     by false e = (refl, omega arith)
 
-feedless-more : (l : List ℕ) (b : ℕ) → to-feed l ≡ length l → eqb b 10 ≡ false → to-feed (l ++ (b ∷ [])) ≡ length (l ++ (b ∷ []))
+pub feedless-more : (l : List ℕ) (b : ℕ) → to-feed l ≡ length l → eqb b 10 ≡ false → to-feed (l ++ (b ∷ [])) ≡ length (l ++ (b ∷ []))
 unfolding to-feed
 feedless-more [] b h e = rw e
 feedless-more (x ∷ l) b h e =
     let f = feedless-rest x l h in
     rw (f .0, feedless-more l b (f .1) e)
 
-no-feed : to-feed [] ≡ length {A = ℕ} []
+pub no-feed : to-feed [] ≡ length {A = ℕ} []
 unfolding to-feed
 no-feed = refl
 
