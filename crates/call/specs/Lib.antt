@@ -4,3 +4,4 @@ pub mod Chunk
 pub mod Laws
 pub mod Whole
 pub mod Codes
+pub mod Ending

@@ -73,7 +73,7 @@ printed-ended t job held [] h = refl
 printed-ended t job held (b ∷ text) h = rw (ne-eqb (job .code) 0 h)
 
 -- a line's bytes without its line feed
-feedless-rest : (b : ℕ) (l : List ℕ) → to-feed (b ∷ l) ≡ length (b ∷ l) → (eqb b 10 ≡ false) × (to-feed l ≡ length l)
+pub feedless-rest : (b : ℕ) (l : List ℕ) → to-feed (b ∷ l) ≡ length (b ∷ l) → (eqb b 10 ≡ false) × (to-feed l ≡ length l)
 unfolding to-feed
 feedless-rest b l = by (eqb b 10)
   where
@@ -81,14 +81,14 @@ feedless-rest b l = by (eqb b 10)
     by true e = absurd (omega arith)
     by false e = (refl, omega arith)
 
-feedless-more : (l : List ℕ) (b : ℕ) → to-feed l ≡ length l → eqb b 10 ≡ false → to-feed (l ++ (b ∷ [])) ≡ length (l ++ (b ∷ []))
+pub feedless-more : (l : List ℕ) (b : ℕ) → to-feed l ≡ length l → eqb b 10 ≡ false → to-feed (l ++ (b ∷ [])) ≡ length (l ++ (b ∷ []))
 unfolding to-feed
 feedless-more [] b h e = rw e
 feedless-more (x ∷ l) b h e =
     let f = feedless-rest x l h in
     rw (f .0, feedless-more l b (f .1) e)
 
-no-feed : to-feed [] ≡ length {A = ℕ} []
+pub no-feed : to-feed [] ≡ length {A = ℕ} []
 unfolding to-feed
 no-feed = refl
 
@@ -165,18 +165,32 @@ part-suffix t job room held (b ∷ l) =
     by true false e g f k = rw (e, g, ← append-snoc held b l) k
     by false q e g f k = rw e (suffix-self (held ++ (b ∷ l)))
 
--- the promise of `lines` makes reads compose: what it wrote, and what is printed of the bytes that it did not use, is what is printed of all
-pub lines-made : (t : List ℤ) (job : Job) (input out : List ℕ) {next : Job} {used written : ℕ} {left : List ℕ} → answer next used written left ≡ lines t job input out → (rest : List ℕ)
-    → printed t job [] (input ++ rest) ≡ take written left ++ printed t next [] (drop used input ++ rest)
+-- what `lines` promises of its answer and the lent output, in terms of the part
+lines-are : (t : List ℤ) (job : Job) (input out : List ℕ) {next : Job} {used written : ℕ} {left : List ℕ} → answer next used written left ≡ lines t job input out
+    → (next ≡ part t job (length out) [] input .job) × ((drop used input ≡ part t job (length out) [] input .unused) × (take written left ≡ part t job (length out) [] input .text))
 unfolding lines given over
-lines-made t job input out {next} {used} {written} {left} e rest =
+lines-are t job input out {next} {used} {written} {left} e =
     let p : Part = part t job (length out) [] input in
     let hn : next ≡ p .job = cc in
     let hu : used ≡ length input - length (p .unused) = cc in
     let hw : written ≡ length (p .text) = cc in
     let hl : left ≡ p .text ++ drop (length (p .text)) out = cc in
-    part-made t job (length out) [] input rest no-feed
-    ∙ rw (hn, hu, hw, hl, take-append-seam (p .text) (drop (length (p .text)) out), part-suffix t job (length out) [] input .1)
+    (hn, (rw hu (part-suffix t job (length out) [] input .1), rw (hw, hl) (take-append-seam (p .text) (drop (length (p .text)) out))))
+
+-- so reads compose: what it wrote, and what is printed of the bytes that it did not use, is what is printed of all
+pub lines-made : (t : List ℤ) (job : Job) (input out : List ℕ) {next : Job} {used written : ℕ} {left : List ℕ} → answer next used written left ≡ lines t job input out → (rest : List ℕ)
+    → printed t job [] (input ++ rest) ≡ take written left ++ printed t next [] (drop used input ++ rest)
+lines-made t job input out e rest =
+    let f = lines-are t job input out e in
+    part-made t job (length out) [] input rest no-feed ∙ rw (f .0, f .1 .0, f .1 .1)
+
+-- and a call of `lines` is the act `take-lines`
+pub lines-act : (t : List ℤ) (h : Held) (out : List ℕ) {next : Job} {used written : ℕ} {left : List ℕ} → answer next used written left ≡ lines t (h .job) (h .bytes) out
+    → act t (take-lines (length out)) h ≡ record { job = next; bytes = drop used (h .bytes); written = h .written ++ take written left }
+unfolding act
+lines-act t h out e =
+    let f = lines-are t (h .job) (h .bytes) out e in
+    rw (f .0, f .1 .0, f .1 .1)
 
 -- ---- an overlong line
 

@@ -1,0 +1,190 @@
+-- The last form of a call (01, "The call text and the program"): the total of all its lines, or a refusal whose L is the number of line feeds before the refused line,
+-- and 1. So `line-number`, which goes by the frames, is the number of the line. Assumes nothing.
+use mathlib.Core.Path.{_≡_, refl, ap, sym, _∙_}
+use mathlib.Core.Bool.{Bool, true, false, cond, _||_}
+use mathlib.Core.List.{List, [], _∷_, _++_, append-assoc, append-nil}
+use Prim.Native.Nat.{ℕ, _+_, _≤_, _<_}
+use native.Mathlib.Omega.{arith}
+use lib.Dec.{eqb, leb, ltb}
+use lib.IntN.{ℤ, pos}
+use lib.Signed.{ltZ}
+use lib.ListN.{length, length-append}
+use lib.Seq.{append-snoc}
+use borrow.Author.Tests.{eq-eqb, ne-eqb, eqb-true, eqb-false, leb-false}
+use Rattle.count.specs.declared.Counts.{Counts}
+use Rattle.count.specs.declared.Counted.{Counted}
+use Rattle.count.specs.Count.{count}
+use Rattle.line.specs.Line as Line
+use Rattle.decoder.specs.Call as Frame
+use Rattle.print.specs.Print.{total, refused}
+use Rattle.tables.specs.Layout.{table-check, scalar}
+use Rattle.tables.specs.declared.Scalar.the-variants.{InitialPreviousPitchDelay}
+use Rattle.words.specs.Words.{words}
+use Rattle.call.specs.Call.{Job, Step, stop, framed, counted, taken, line-step, line-number, last-form, printed, fresh-job, file-check, output}
+use Rattle.call.specs.Chunk.{to-feed}
+use Rattle.call.specs.Whole.{feedless-rest, feedless-more, no-feed, printed-ended}
+
+-- the number of line feeds
+unfoldable pub feeds : List ℕ → ℕ
+feeds [] = 0
+feeds (b ∷ l) = cond (eqb b 10) 1 0 + feeds l
+
+-- whether a text is whole lines, where p says so of nothing: its last byte is a line feed
+unfoldable pub ended : Bool → List ℕ → Bool
+ended p [] = p
+ended p (b ∷ l) = ended (eqb b 10) l
+
+-- all that is printed of a text behind n lines
+pub data Ending (n : ℕ) (text out : List ℕ) : Type 0 where
+  -- the last form is the total, with as many frames as there are lines
+  with-total : (samples : List ℕ) (lost : ℕ) → out ≡ samples ++ total (n + feeds text) lost → Ending n text out
+  -- or the refusal of the line that stands behind some whole lines
+  with-refusal : (samples before rest : List ℕ) (code : ℕ) → (code ≡ 0 → ⊥) → text ≡ before ++ rest → ended true before ≡ true → 0 < length rest
+      → out ≡ samples ++ refused code (n + feeds before + 1) → Ending n text out
+
+-- ---- one line: a frame more where it is taken, and the counts as they were where it is refused
+
+record Counting (c : Counts) (s : Step) : Type 0 where
+  more : s .job .code ≡ 0 → (s .job .counts .frames ≡ c .frames + 1) × (c .frames < 360000)
+  as-was : (s .job .code ≡ 0 → ⊥) → s .job .counts ≡ c
+
+counting-frame : (job : Job) (next : Counts) (a : Frame.Answer) → (next .frames ≡ job .counts .frames + 1) × (job .counts .frames < 360000) → Counting (job .counts) (framed job next a)
+unfolding framed
+counting-frame job next (Frame.answer code b samples) h = record { more = λ e. rw (eq-eqb code 0 e) h; as-was = λ e. rw (ne-eqb code 0 e) }
+
+counting-if : (job : Job) (n : ℕ) (s : Step) → (n ≡ 0 → Counting (job .counts) s) → Counting (job .counts) (cond (eqb n 0) s (stop job n))
+unfolding stop
+counting-if job n s f = by (eqb n 0) refl
+  where
+    by : (p : Bool) → eqb n 0 ≡ p → Counting (job .counts) (cond p s (stop job n))
+    by true e = f (eqb-true n 0 e)
+    by false e = record { more = λ h. absurd (eqb-false n 0 e h); as-was = λ h. refl }
+
+count-more : (kind : ℕ) (c : Counts) → count kind c .code ≡ 0 → (count kind c .counts .frames ≡ c .frames + 1) × (c .frames < 360000)
+unfolding count
+count-more kind c = by (ltb 3 kind) (leb 360000 (c .frames)) (leb 360000 (c .lost)) refl
+  where
+    next : Counts
+    next = record { frames = c .frames + 1; lost = cond (eqb kind 0) (c .lost) (c .lost + 1) }
+
+    r : Bool → Bool → Counted
+    r p q = cond p (record { code = 5; counts = c }) (cond q (record { code = 10; counts = c }) (record { code = 0; counts = next }))
+
+    by : (p q l : Bool) → leb 360000 (c .frames) ≡ q → r p (q || l) .code ≡ 0 → (r p (q || l) .counts .frames ≡ c .frames + 1) × (c .frames < 360000)
+    by true q l e h = absurd (omega arith)
+    by false true l e h = absurd (omega arith)
+    by false false true e h = absurd (omega arith)
+    by false false false e h = (refl, omega (arith, leb-false 360000 (c .frames) e))
+
+counting-taken : (t : List ℤ) (job : Job) (a : Line.Answer) → Counting (job .counts) (taken t job a)
+unfolding taken counted
+counting-taken t job (Line.answer code kind bytes) =
+    counting-if job code _ (λ e. counting-if job (count kind (job .counts) .code) _ (λ g. counting-frame job _ _ (count-more kind (job .counts) g)))
+
+counting : (t : List ℤ) (job : Job) (l : List ℕ) → Counting (job .counts) (line-step t job l)
+unfolding line-step
+counting t job l = counting-taken t job _
+
+-- ---- a line in front of a text
+
+feeds-line : (held text : List ℕ) (b : ℕ) → to-feed held ≡ length held → eqb b 10 ≡ true → feeds (held ++ (b ∷ text)) ≡ 1 + feeds text
+unfolding feeds
+feeds-line [] text b h e = rw e
+feeds-line (x ∷ held) text b h e =
+    let f = feedless-rest x held h in
+    rw (f .0) (omega (arith, feeds-line held text b (f .1) e))
+
+ended-line : (p : Bool) (held text : List ℕ) (b : ℕ) → ended p (held ++ (b ∷ text)) ≡ ended (eqb b 10) text
+unfolding ended
+ended-line p [] text b = refl
+ended-line p (x ∷ held) text b = ended-line (eqb x 10) held text b
+
+nothing-ended : ended true [] ≡ true
+unfolding ended
+nothing-ended = refl
+
+line-more : (n m : ℕ) (held text v out : List ℕ) (b : ℕ) → m ≡ n + 1 → to-feed held ≡ length held → eqb b 10 ≡ true → Ending m text out → Ending n (held ++ (b ∷ text)) (v ++ out)
+line-more n m held text v out b hm h e (with-total samples lost f) =
+    let k : m + feeds text ≡ n + feeds (held ++ (b ∷ text)) = omega (arith, feeds-line held text b h e) in
+    with-total (v ++ samples) lost (rw (f, k) (sym (append-assoc v samples _)))
+line-more n m held text v out b hm h e (with-refusal samples before rest code z g w l f) =
+    let k : m + feeds before ≡ n + feeds (held ++ (b ∷ before)) = omega (arith, feeds-line held before b h e) in
+    with-refusal (v ++ samples) (held ++ (b ∷ before)) rest code z (rw g (sym (append-assoc held (b ∷ before) rest))) (ended-line true held before b ∙ rw e w) l
+    (rw (f, k) (sym (append-assoc v samples _)))
+
+-- ---- the last form
+
+refused-form : (c : Counts) (code : ℕ) (held : List ℕ) → c .frames ≤ 360000 → (code ≡ 0 → ⊥) → last-form c code held ≡ refused code (c .frames + feeds [] + 1)
+unfolding last-form line-number feeds
+refused-form c code held h z = rw (ne-eqb code 0 z) (ap (λ (n : ℕ). refused code n) (omega arith))
+
+open-form : (c : Counts) (code : ℕ) (held : List ℕ) → c .frames ≤ 360000 → code ≡ 0 → Ending (c .frames) held (last-form c code held)
+unfolding last-form line-number feeds ended
+open-form c code [] h z = with-total [] (c .lost) (rw (eq-eqb code 0 z) (ap (λ (n : ℕ). total n (c .lost)) (omega arith)))
+open-form c code (b ∷ held) h z =
+    with-refusal [] [] (b ∷ held) 9 (λ e. omega arith) refl refl (omega arith)
+    (rw (eq-eqb code 0 z, ne-eqb (length (b ∷ held)) 0 (λ e. omega arith)) (ap (λ (n : ℕ). refused 9 n) (omega arith)))
+
+pub ending : (t : List ℤ) (job : Job) (held text : List ℕ) → job .code ≡ 0 → job .counts .frames ≤ 360000 → to-feed held ≡ length held
+    → Ending (job .counts .frames) (held ++ text) (printed t job held text)
+unfolding printed
+ending t job held [] z k h = rw (append-nil held) (open-form (job .counts) (job .code) held k z)
+ending t job held (b ∷ text) z k h =
+    rw (eq-eqb (job .code) 0 z)
+    (by (eqb b 10) (eqb (s .job .code) 0) refl refl (λ g f. ending t (s .job) [] text g f no-feed) (λ g. ending t job (held ++ (b ∷ [])) text z k (feedless-more held b h g)))
+  where
+    s : Step
+    s = line-step t job held
+
+    n : ℕ
+    n = job .counts .frames
+
+    by : (p q : Bool) → eqb b 10 ≡ p → eqb (s .job .code) 0 ≡ q
+        → (s .job .code ≡ 0 → s .job .counts .frames ≤ 360000 → Ending (s .job .counts .frames) text (printed t (s .job) [] text))
+        → (eqb b 10 ≡ false → Ending n ((held ++ (b ∷ [])) ++ text) (printed t job (held ++ (b ∷ [])) text))
+        → Ending n (held ++ (b ∷ text)) (cond p (s .text ++ printed t (s .job) [] text) (printed t job (held ++ (b ∷ [])) text))
+    by true true e g f r =
+        let c : s .job .code ≡ 0 = eqb-true (s .job .code) 0 g in
+        let m = counting t job held .more c in
+        line-more n (s .job .counts .frames) held text (s .text) _ b (m .0) h e (f c (omega arith))
+    by true false e g f r =
+        let c : s .job .code ≡ 0 → ⊥ = eqb-false (s .job .code) 0 g in
+        let w : s .job .counts ≡ job .counts = counting t job held .as-was c in
+        with-refusal (s .text) [] (held ++ (b ∷ text)) (s .job .code) c refl nothing-ended (rw length-append (omega arith))
+        (rw (printed-ended t (s .job) [] text c, w, refused-form (job .counts) (s .job .code) [] k c))
+    by false q e g f r = rw (← append-snoc held b text) (r e)
+
+-- ---- the program
+
+check-few : (t : List ℤ) → table-check t ≤ 2
+unfolding table-check
+check-few t = by (eqb (length t) 1880) (ltZ delay (pos 19) || ltZ (pos 144) delay)
+  where
+    delay : ℤ
+    delay = scalar t InitialPreviousPitchDelay
+
+    by : (p q : Bool) → cond p (cond q 2 0) 1 ≤ 2
+    by true true = omega arith
+    by true false = omega arith
+    by false q = omega arith
+
+file-check-few : (file : List ℕ) → file-check file ≤ 2
+unfolding file-check
+file-check-few file = by (eqb (length file) 3760)
+  where
+    by : (p : Bool) → cond p (table-check (words file)) 1 ≤ 2
+    by true = check-few (words file)
+    by false = omega arith
+
+-- all that the program prints: samples and a last form, or with tables that are refused code 1 or 2 and line 0 alone
+pub record Ends (file text : List ℕ) : Type 0 where
+  pub with-tables : file-check file ≡ 0 → Ending 0 text (output file text)
+  pub no-tables : (file-check file ≡ 0 → ⊥) → (output file text ≡ refused (file-check file) 0) × (file-check file ≤ 2)
+
+pub ends : (file text : List ℕ) → Ends file text
+unfolding output fresh-job
+ends file text =
+    record {
+      with-tables = λ e. rw (eq-eqb (file-check file) 0 e) (ending (words file) (fresh-job (words file)) [] text refl (omega arith) no-feed);
+      no-tables = λ n. (rw (ne-eqb (file-check file) 0 n), file-check-few file);
+    }
