@@ -5,6 +5,7 @@
 #![allow(dead_code)]
 
 mod blocks;
+mod ffi;
 mod generate;
 mod measure;
 mod proved;

@@ -1,10 +1,11 @@
-//! The C functions of include/holdamek.h, each behind a safe function over slices. The only unsafe code of this crate.
+//! The C functions of include/holdamek.h, each behind a safe function over slices. The only unsafe code of this crate;
+//! oracle/build takes this file over.
 //!
 //! All are safe for the same reasons: a slice's pointer and length describe memory that is its own, references are never null,
 //! what is lent by `&mut` overlaps nothing else, and the functions keep no pointer.
 
 mod c {
-    extern "C" {
+    unsafe extern "C" {
         pub fn holdamek_table_check(t: *const i16, t_len: usize) -> u32;
         pub fn holdamek_fresh_state(t: *const i16, t_len: usize, b: *mut i16, b_len: usize) -> u32;
         pub fn holdamek_frame(
