@@ -164,33 +164,33 @@ bytes-take (suc n) (b ∷ l) a (suc k) = bytes-take n l (λ i. a (suc i)) k
 bytes-drop : (n : ℕ) (l : List ℕ) → Bytes l → Bytes (drop n l)
 bytes-drop n l a k = rw getD-drop (a (n + k))
 
-module _ (f : List ℕ) (k v : ℕ) (a : Bytes f) (n : length f ≡ 488) (h : k < 488) (j : v < 256) (d : v ≡ getD f k 0 → ⊥) (s : sum-fits f ≡ true) where
-  sum : number (take 4 (drop 484 f)) ≡ crc32 (take 484 f)
+module _ (f : List ℕ) (k v : ℕ) (a : Bytes f) (n : length f ≡ 492) (h : k < 492) (j : v < 256) (d : v ≡ getD f k 0 → ⊥) (s : sum-fits f ≡ true) where
+  sum : number (take 4 (drop 488 f)) ≡ crc32 (take 488 f)
   unfolding sum-fits
   sum = eqb-true _ _ s
 
   -- before the sum
-  below : k < 484 → sum-fits (set f k v) ≡ false
+  below : k < 488 → sum-fits (set f k v) ≡ false
   unfolding sum-fits
   below i =
-      rw (take-set-lt 484 f k v i, drop-set-lt 484 f k v i)
-      (ne-eqb (number (take 4 (drop 484 f))) (crc32 (set (take 484 f) k v)) (λ e. d (crc32-set (take 484 f) k v (bytes-take 484 f a) (rw length-take (omega arith)) j (sym e ∙ sum) ∙ getD-take 484 f k 0 i)))
+      rw (take-set-lt 488 f k v i, drop-set-lt 488 f k v i)
+      (ne-eqb (number (take 4 (drop 488 f))) (crc32 (set (take 488 f) k v)) (λ e. d (crc32-set (take 488 f) k v (bytes-take 488 f a) (rw length-take (omega arith)) j (sym e ∙ sum) ∙ getD-take 488 f k 0 i)))
 
   -- in the sum
-  above : 484 ≤ k → sum-fits (set f k v) ≡ false
+  above : 488 ≤ k → sum-fits (set f k v) ≡ false
   unfolding sum-fits
   above i =
-      let m : 484 + (k - 484) ≡ k = omega arith in
-      let g : drop 484 (set f k v) ≡ set (drop 484 f) (k - 484) v = ap (λ (i : ℕ). drop 484 (set f i v)) (sym m) ∙ drop-set-add 484 f (k - 484) v in
-      let t : take 4 (set (drop 484 f) (k - 484) v) ≡ set (drop 484 f) (k - 484) v = take-all 4 _ (simp (length-set, length-drop) (omega arith)) in
-      let u : take 4 (drop 484 f) ≡ drop 484 f = take-all 4 _ (simp length-drop (omega arith)) in
-      rw (take-set-le 484 f k v i, g, t)
-      (ne-eqb (number (set (drop 484 f) (k - 484) v)) (crc32 (take 484 f)) (λ e. d (number-set (drop 484 f) (k - 484) v (bytes-drop 484 f a) (simp length-drop (omega arith)) j (e ∙ sym sum ∙ ap number u) ∙ getD-drop 484 f (k - 484) 0 ∙ ap (λ (i : ℕ). getD f i 0) m)))
+      let m : 488 + (k - 488) ≡ k = omega arith in
+      let g : drop 488 (set f k v) ≡ set (drop 488 f) (k - 488) v = ap (λ (i : ℕ). drop 488 (set f i v)) (sym m) ∙ drop-set-add 488 f (k - 488) v in
+      let t : take 4 (set (drop 488 f) (k - 488) v) ≡ set (drop 488 f) (k - 488) v = take-all 4 _ (simp (length-set, length-drop) (omega arith)) in
+      let u : take 4 (drop 488 f) ≡ drop 488 f = take-all 4 _ (simp length-drop (omega arith)) in
+      rw (take-set-le 488 f k v i, g, t)
+      (ne-eqb (number (set (drop 488 f) (k - 488) v)) (crc32 (take 488 f)) (λ e. d (number-set (drop 488 f) (k - 488) v (bytes-drop 488 f a) (simp length-drop (omega arith)) j (e ∙ sym sum ∙ ap number u) ∙ getD-drop 488 f (k - 488) 0 ∙ ap (λ (i : ℕ). getD f i 0) m)))
 
-  -- 22, whichever byte it is
-  pub damaged : check (set f k v) ≡ 22
-  damaged = sym (check-sum (set f k v) (length-set f k v ∙ n) (by (ltb k 484) refl))
+  -- 22, whichever byte it is and whichever tables are at hand
+  pub damaged : (tables : ℕ) → check (set f k v) tables ≡ 22
+  damaged tables = sym (check-sum (set f k v) tables (length-set f k v ∙ n) (by (ltb k 488) refl))
     where
-      by : (t : Bool) → ltb k 484 ≡ t → sum-fits (set f k v) ≡ false
+      by : (t : Bool) → ltb k 488 ≡ t → sum-fits (set f k v) ≡ false
       by true e = below (ltb-true _ _ e)
       by false e = above (ltb-false _ _ e)

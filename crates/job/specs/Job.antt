@@ -1,5 +1,6 @@
--- The job file: what a call that was stopped between two lines goes on from. 488 bytes, every number low byte first: the state block (01, "The table block
--- and the state block"), the counts of frames and lost frames, how many bytes of the call text were taken, and the CRC-32 of all these.
+-- The job file: what a call that was stopped between two lines goes on from. 492 bytes, every number low byte first: the state block (01, "The table block
+-- and the state block"), the counts of frames and lost frames, how many bytes of the call text were taken, the CRC-32 of the table file that the job was begun with, and the CRC-32
+-- of all these.
 use mathlib.Core.Bool.{Bool, cond, _&&_}
 use mathlib.Core.List.{List, _++_}
 use Prim.Native.Nat.{ℕ, _*_}
@@ -13,9 +14,14 @@ use Rattle.job.specs.Crc32.{crc32}
 
 -- ---- written
 
--- 484 bytes
+-- where a new job begins, with tables of this CRC-32
+unfoldable pub start : ℕ → Saved
+start tables = record { counts = record { frames = 0; lost = 0 }; at = 0; tables = tables }
+
+-- 488 bytes
 unfoldable pub body : List ℤ → Saved → List ℕ
-body block p = bytes block ++ (number-bytes 4 (p .counts .frames) ++ (number-bytes 4 (p .counts .lost) ++ number-bytes 8 (p .at)))
+body block p =
+    bytes block ++ (number-bytes 4 (p .counts .frames) ++ (number-bytes 4 (p .counts .lost) ++ (number-bytes 8 (p .at) ++ number-bytes 4 (p .tables))))
 
 unfoldable pub pack : List ℤ → Saved → List ℕ
 pack block p = body block p ++ number-bytes 4 (crc32 (body block p))
@@ -30,11 +36,12 @@ place f =
     record {
       counts = record { frames = number (take 4 (drop 468 f)); lost = number (take 4 (drop 472 f)) };
       at = number (take 8 (drop 476 f));
+      tables = number (take 4 (drop 484 f));
     }
 
 -- the check sum is that of the bytes before it
 unfoldable pub sum-fits : List ℕ → Bool
-sum-fits f = eqb (number (take 4 (drop 484 f))) (crc32 (take 484 f))
+sum-fits f = eqb (number (take 4 (drop 488 f))) (crc32 (take 488 f))
 
 -- counts that a job can have: a call has 360,000 frames at most (01), and a frame's line, with its line feed, 15 to 37 bytes
 unfoldable pub counts-fit : Saved → Bool
@@ -42,10 +49,14 @@ counts-fit p =
     leb (p .counts .lost) (p .counts .frames) && (leb (p .counts .frames) 360000
     && (leb (15 * p .counts .frames) (p .at) && leb (p .at) (37 * p .counts .frames)))
 
--- 3: not 488 bytes. 22: damaged, the check sum or the counts don't fit. 4: as 01 says of a state block. 22 comes before 4, since a damaged
--- byte may lie in the predictor or the delay, and must not be taken for a state that was never good.
-unfoldable pub check : List ℕ → ℕ
-check f = cond (eqb (length f) 488) (cond (sum-fits f && counts-fit (place f)) (state-check (block f)) 22) 3
+-- Tables of this CRC-32 are at hand. 3: not 492 bytes. 22: damaged, the check sum or the counts don't fit. 23: the job was begun with other tables. 4: as 01 says of
+-- a state block. 22 comes before 23 and 4, since a damaged byte may lie in the tables' CRC-32, the predictor or the delay, and must not be taken for other tables or for a
+-- state that was never good; 23 comes before 4, since no word of the block is looked at before it is known to belong to these tables.
+unfoldable pub check : List ℕ → ℕ → ℕ
+check f tables =
+    cond (eqb (length f) 492)
+    (cond (sum-fits f && counts-fit (place f)) (cond (eqb (place f .tables) tables) (state-check (block f)) 23) 22)
+    3
 
 -- the number returned, the place, and the lent state block as the call leaves it
 pub data Answer : Type 0 where
@@ -53,8 +64,8 @@ pub data Answer : Type 0 where
 
 -- beside a refusal
 unfoldable pub nowhere : Saved
-nowhere = record { counts = record { frames = 0; lost = 0 }; at = 0 }
+nowhere = start 0
 
 -- a refusal leaves the block as it was
-unfoldable pub read : List ℕ → List ℤ → Answer
-read f lent = cond (eqb (check f) 0) (answer 0 (place f) (block f)) (answer (check f) nowhere lent)
+unfoldable pub read : List ℕ → ℕ → List ℤ → Answer
+read f tables lent = cond (eqb (check f tables) 0) (answer 0 (place f) (block f)) (answer (check f tables) nowhere lent)

@@ -25,7 +25,7 @@ use Rattle.job.specs.Names.{new, aside, folder}
 use Rattle.job.specs.Names as Names
 use Rattle.job.specs.Part.{going, taken, part, no-number, digits, wanted, saved}
 use Rattle.job.specs.Part as Part
-use Rattle.job.specs.Job.{body, pack, block, place, sum-fits, counts-fit, check, answer, nowhere, read}
+use Rattle.job.specs.Job.{start, body, pack, block, place, sum-fits, counts-fit, check, answer, nowhere, read}
 use Rattle.job.specs.Crc32.{bit, bits, byte, run, crc32}
 
 -- ---- the loops of the check sum
@@ -82,63 +82,69 @@ part-number l a k n h g p =
 
 -- ---- written
 
-pub pack-whole : (block : List ℤ) (p : Saved) (z o₁ o₂ o₃ o₄ o₅ : List ℕ) (s : ℕ) → length block ≡ 234 → length z ≡ 488 → o₁ ≡ to-bytes block z
+pub pack-whole : (block : List ℤ) (p : Saved) (z o₁ o₂ o₃ o₄ o₅ o₆ : List ℕ) (s : ℕ) → length block ≡ 234 → length z ≡ 492 → o₁ ≡ to-bytes block z
     → take 472 o₂ ≡ take 468 o₁ ++ number-bytes 4 (p .counts .frames) → take 476 o₃ ≡ take 472 o₂ ++ number-bytes 4 (p .counts .lost)
-    → take 484 o₄ ≡ take 476 o₃ ++ number-bytes 8 (p .at) → s ≡ crc32 (take 484 o₄) → take 488 o₅ ≡ take 484 o₄ ++ number-bytes 4 s → length o₅ ≡ 488
-    → o₅ ≡ pack block p
+    → take 484 o₄ ≡ take 476 o₃ ++ number-bytes 8 (p .at) → take 488 o₅ ≡ take 484 o₄ ++ number-bytes 4 (p .tables) → s ≡ crc32 (take 488 o₅)
+    → take 492 o₆ ≡ take 488 o₅ ++ number-bytes 4 s → length o₆ ≡ 492 → o₆ ≡ pack block p
 unfolding pack body
-pack-whole block p z o₁ o₂ o₃ o₄ o₅ s h k e₁ e₂ e₃ e₄ g e₅ n =
+pack-whole block p z o₁ o₂ o₃ o₄ o₅ o₆ s h k e₁ e₂ e₃ e₄ e₅ g e₆ n =
     let d : 2 * length block ≡ 468 = omega arith in
     let a : take 468 o₁ ≡ bytes block = rw (e₁, ← d) (to-front block z (omega arith)) in
-    let f : take 484 o₄ ≡ bytes block ++ (number-bytes 4 (p .counts .frames) ++ (number-bytes 4 (p .counts .lost) ++ number-bytes 8 (p .at))) =
-    e₄ ∙ rw (e₃, e₂, a) (simp append-assoc) in
-    sym (take-all 488 o₅ (omega arith)) ∙ e₅ ∙ rw (g, f)
+    let f : take 488 o₅ ≡ bytes block ++ (number-bytes 4 (p .counts .frames) ++ (number-bytes 4 (p .counts .lost) ++ (number-bytes 8 (p .at) ++ number-bytes 4 (p .tables)))) =
+    e₅ ∙ rw (e₄, e₃, e₂, a) (simp append-assoc) in
+    sym (take-all 492 o₆ (omega arith)) ∙ e₆ ∙ rw (g, f)
 
 -- ---- read
 
-pub sum-is : (f : List ℕ) (n s : ℕ) → length f ≡ 488
-    → (n ≡ number (take 8 (take 4 (drop 484 f)))) × (n < 2 ^ (8 * min 8 (length (take 4 (drop 484 f))))) → s ≡ crc32 (take 484 f) → eqb n s ≡ sum-fits f
+pub sum-is : (f : List ℕ) (n s : ℕ) → length f ≡ 492
+    → (n ≡ number (take 8 (take 4 (drop 488 f)))) × (n < 2 ^ (8 * min 8 (length (take 4 (drop 488 f))))) → s ≡ crc32 (take 488 f) → eqb n s ≡ sum-fits f
 unfolding sum-fits
-sum-is f n s h p e = rw (part-number f 484 4 n (omega arith) (omega arith) p .0, e)
+sum-is f n s h p e = rw (part-number f 488 4 n (omega arith) (omega arith) p .0, e)
 
-pub block-is : (f : List ℕ) (lent z : List ℤ) → length f ≡ 488 → length lent ≡ 234 → z ≡ from-bytes (take 468 f) lent → z ≡ block f
+pub block-is : (f : List ℕ) (lent z : List ℤ) → length f ≡ 492 → length lent ≡ 234 → z ≡ from-bytes (take 468 f) lent → z ≡ block f
 unfolding block
 block-is f lent z h k e = e ∙ from-whole (take 468 f) lent (rw length-take (omega arith))
 
 -- the tests of `check`, in their order
-pub check-length : (f : List ℕ) → length f ≢ 488 → 3 ≡ check f
+pub check-length : (f : List ℕ) (tables : ℕ) → length f ≢ 492 → 3 ≡ check f tables
 unfolding check
-check-length f h = rw (ne-eqb _ _ h)
+check-length f tables h = rw (ne-eqb _ _ h)
 
-pub check-sum : (f : List ℕ) → length f ≡ 488 → sum-fits f ≡ false → 22 ≡ check f
+pub check-sum : (f : List ℕ) (tables : ℕ) → length f ≡ 492 → sum-fits f ≡ false → 22 ≡ check f tables
 unfolding check
-check-sum f h e = rw (eq-eqb _ _ h, e)
+check-sum f tables h e = rw (eq-eqb _ _ h, e)
 
-pub check-counts : (f : List ℕ) (p : Saved) → length f ≡ 488 → sum-fits f ≡ true → p ≡ place f → counts-fit p ≡ false → 22 ≡ check f
-unfolding check
-check-counts f p h e g k = rw (eq-eqb _ _ h, e, ← g, k)
+module _ (f : List ℕ) (tables : ℕ) (p : Saved) (h : length f ≡ 492) (e : sum-fits f ≡ true) (g : p ≡ place f) where
+  pub check-counts : counts-fit p ≡ false → 22 ≡ check f tables
+  unfolding check
+  check-counts k = rw (eq-eqb _ _ h, e, ← g, k)
 
-pub check-state : (f : List ℕ) (p : Saved) (b : List ℤ) (r : ℕ) → length f ≡ 488 → sum-fits f ≡ true → p ≡ place f → counts-fit p ≡ true → b ≡ block f → r ≡ state-check b → r ≡ check f
-unfolding check
-check-state f p b r h e g k i j = rw (eq-eqb _ _ h, e, ← g, k, ← i) j
+  pub check-tables : counts-fit p ≡ true → p .tables ≢ tables → 23 ≡ check f tables
+  unfolding check
+  check-tables k t = rw (eq-eqb _ _ h, e, ← g, k, ne-eqb _ _ t)
 
--- a file that is not refused has 488 bytes
-pub check-zero : (f : List ℕ) → check f ≡ 0 → length f ≡ 488
+  pub check-state : (b : List ℤ) (r : ℕ) → counts-fit p ≡ true → p .tables ≡ tables → b ≡ block f → r ≡ state-check b → r ≡ check f tables
+  unfolding check
+  check-state b r k t i j = rw (eq-eqb _ _ h, e, ← g, k, eq-eqb _ _ t, ← i) j
+
+-- a file that is not refused has 492 bytes
+pub check-zero : (f : List ℕ) (tables : ℕ) → check f tables ≡ 0 → length f ≡ 492
 unfolding check
-check-zero f e = by (eqb (length f) 488) refl
+check-zero f tables e = by (eqb (length f) 492) refl
   where
-    by : (t : Bool) → eqb (length f) 488 ≡ t → length f ≡ 488
+    by : (t : Bool) → eqb (length f) 492 ≡ t → length f ≡ 492
     by true h = eqb-true _ _ h
     by false h = let z : _≡_ {A = ℕ} 3 0 = rw h at e in absurd (omega arith)
 
-pub read-refused : (f : List ℕ) (lent : List ℤ) (r : ℕ) → r ≡ check f → (r ≡ 0 → ⊥) → answer r nowhere lent ≡ read f lent
-unfolding read
-read-refused f lent r e h = rw (← e, ne-eqb _ _ h)
+pub read-refused : (f : List ℕ) (tables : ℕ) (lent : List ℤ) (r : ℕ) (p : Saved) → r ≡ check f tables → (r ≡ 0 → ⊥) → p ≡ start 0 → answer r p lent ≡ read f tables lent
+unfolding read nowhere
+read-refused f tables lent r p e h g = rw (← e, ne-eqb _ _ h, g)
 
-pub read-done : (f : List ℕ) (lent z : List ℤ) (r : ℕ) (p : Saved) → r ≡ check f → r ≡ 0 → p ≡ place f → length lent ≡ 234 → z ≡ from-bytes (take 468 f) lent → answer r p z ≡ read f lent
+pub read-done : (f : List ℕ) (tables : ℕ) (lent z : List ℤ) (r : ℕ) (p : Saved) → r ≡ check f tables → r ≡ 0 → p ≡ place f → length lent ≡ 234 → z ≡ from-bytes (take 468 f) lent
+    → answer r p z ≡ read f tables lent
 unfolding read
-read-done f lent z r p e h g k i =
-    let n : length f ≡ 488 = check-zero f (sym e ∙ h) in
+read-done f tables lent z r p e h g k i =
+    let n : length f ≡ 492 = check-zero f tables (sym e ∙ h) in
     rw (← e, eq-eqb _ _ h, h, g, block-is f lent z n k i)
 
 -- ---- a part of a call

@@ -1,7 +1,9 @@
 -- A call that is cut anywhere and resumed prints what the whole call prints. `Good` is what a state and an output file have to be for that; a new job is good, a part that is
--- decoded and written at its place leaves it good, a state file hands it on (`pack-read` of Back), and at the end of the text the last form completes the output. Assumes nothing.
+-- decoded and written at its place leaves it good, a state file hands it on to the same tables and to no others (`good-file`, `good-other`), and at the end of the text the last form
+-- completes the output. Assumes nothing.
 use mathlib.Core.Path.{_≡_, refl, sym, ap, _∙_}
 use mathlib.Core.Bool.{Bool, true, false, cond, _||_}
+use mathlib.Core.Logic.{_≢_}
 use mathlib.Core.List.{List, [], _∷_, _++_, append-assoc, append-nil}
 use Prim.Native.Nat.{ℕ, _+_, _-_, _*_, _%_, _^_, _≤_, _<_, min}
 use native.Mathlib.Omega.{arith}
@@ -9,6 +11,7 @@ use native.Mathlib.Nat.{mod-eq-of-lt}
 use borrow.Author.Tests.{eq-eqb, ne-eqb, eqb-true, eqb-false}
 use lib.Dec.{eqb, leb, ltb}
 use lib.IntN.{ℤ, pos}
+use lib.Signed.{mag}
 use lib.ListN.{length, take, drop, replicate, length-append, length-take, length-drop, take-append-drop}
 use lib.Seq.{take-at, drop-append-le, drop-drop}
 use Rattle.count.specs.declared.Counts.{Counts}
@@ -17,14 +20,20 @@ use Rattle.count.specs.Count.{count}
 use Rattle.line.specs.Line as Line
 use Rattle.plc.specs.Kinds.{payload-length}
 use Rattle.decoder.specs.Call as Frame
-use Rattle.call.specs.Call.{Job, Step, stop, framed, counted, line-step, last-form, printed, fresh-job}
+use Rattle.call.specs.Call.{Job, Step, stop, framed, counted, line-step, last-form, printed, fresh-job, file-check, output}
 use Rattle.call.specs.Call as Call
 use Rattle.call.specs.Chunk as Chunk
 use Rattle.call.specs.Laws.{sized}
 use Rattle.call.specs.Whole.{with-code, printed-ended, again, lines-made, overlong-made}
 use Rattle.print.specs.Print.{over}
+use Rattle.laws.specs.Lists.{at}
+use Rattle.state.specs.State.{state-check}
+use Rattle.words.specs.Words.{words}
 use Rattle.job.specs.declared.Saved.{Saved}
-use Rattle.job.specs.Job.{nowhere}
+use Rattle.job.specs.Crc32.{crc32}
+use Rattle.job.specs.Job.{start, pack, counts-fit, answer, nowhere, read}
+use Rattle.job.specs.Damage.{Bytes, crc32-lt}
+use Rattle.job.specs.Back.{pack-read, pack-other}
 use Rattle.job.specs.Part.{going, taken, part}
 use Rattle.job.specs.Part as Part
 
@@ -114,20 +123,34 @@ part-frames t job room held (b ∷ l) =
 unfoldable pub put-at : ℕ → List ℕ → List ℕ → List ℕ
 put-at o v out = take o out ++ (v ++ drop (o + length v) out)
 
--- the forms of the frames that are done stand in the output, and with what the rest of the text prints from this state they are all that is to be printed
-pub record Good (t : List ℤ) (text all : List ℕ) (b : List ℤ) (p : Saved) (out : List ℕ) : Type 0 where
+-- the forms of the frames that are done stand in the output, and with what the rest of the text prints from this state they are all that is to be printed; the tables are those
+-- of this table file, and the job has its CRC-32
+pub record Good (file text all : List ℕ) (b : List ℤ) (p : Saved) (out : List ℕ) : Type 0 where
+  pub of-tables : p .tables ≡ crc32 file
   pub reach : 327 * p .counts .frames ≤ length out
-  pub made : all ≡ take (327 * p .counts .frames) out ++ printed t (going b p) [] (drop (p .at) text)
+  pub made : all ≡ take (327 * p .counts .frames) out ++ printed (words file) (going b p) [] (drop (p .at) text)
 
--- a new job, whatever stands in the output
-pub good-fresh : (t : List ℤ) (text out : List ℕ) → Good t text (printed t (fresh-job t) [] text) (fresh-job t .block) nowhere out
-unfolding going fresh-job nowhere
-good-fresh t text out = record { reach = omega arith; made = refl }
+-- a new job, whatever stands in the output: all that is to be printed is what `decode` prints
+pub good-fresh : (file text out : List ℕ) → file-check file ≡ 0 → Good file text (output file text) (fresh-job (words file) .block) (start (crc32 file)) out
+unfolding going fresh-job start output
+good-fresh file text out h = record { of-tables = refl; reach = omega arith; made = rw (eq-eqb _ _ h) }
 
 -- whatever is written behind the place, as by a program that was stopped before it saved its next state
-pub good-behind : (t : List ℤ) (text all : List ℕ) (b : List ℤ) (p : Saved) (out out′ : List ℕ) → Good t text all b p out → 327 * p .counts .frames ≤ length out′
-    → take (327 * p .counts .frames) out′ ≡ take (327 * p .counts .frames) out → Good t text all b p out′
-good-behind t text all b p out out′ good h e = record { reach = h; made = good .made ∙ rw e }
+pub good-behind : (file text all : List ℕ) (b : List ℤ) (p : Saved) (out out′ : List ℕ) → Good file text all b p out → 327 * p .counts .frames ≤ length out′
+    → take (327 * p .counts .frames) out′ ≡ take (327 * p .counts .frames) out → Good file text all b p out′
+good-behind file text all b p out out′ good h e = record { of-tables = good .of-tables; reach = h; made = good .made ∙ rw e }
+
+-- a job that goes through a state file: with the same tables it is the job that was saved, with tables of another CRC-32 it is refused
+module _ (file text all : List ℕ) (b : List ℤ) (p : Saved) (out : List ℕ) (good : Good file text all b p out)
+    (a : Bytes file) (n : length b ≡ 234) (w : (k : ℕ) → mag (at b k) < 32768) (c : counts-fit p ≡ true) (lent : List ℤ) where
+  has-sum : p .tables < 2 ^ 32
+  has-sum = rw (good .of-tables) (crc32-lt file a)
+
+  pub good-file : state-check b ≡ 0 → read (pack b p) (crc32 file) lent ≡ answer 0 p b
+  good-file e = ap (λ (s : ℕ). read (pack b p) s lent) (sym (good .of-tables)) ∙ pack-read b p n w c has-sum lent e
+
+  pub good-other : (other : List ℕ) → crc32 file ≢ crc32 other → read (pack b p) (crc32 other) lent ≡ answer 23 nowhere lent
+  good-other other h = pack-other b p n w c has-sum (crc32 other) lent (λ e. h (sym (good .of-tables) ∙ e))
 
 same-job : (j : Job) → j .code ≡ 0 → j ≡ record { block = j .block; counts = j .counts; code = 0 }
 same-job j e = λ i. record { block = j .block; counts = j .counts; code = e i }
@@ -143,8 +166,11 @@ unfolding put-at
 put-reach o v out h = simp (length-append, length-take, length-drop) (omega arith)
 
 -- a part that is decoded, and written at its place: n bytes of the text were read
-module _ (t : List ℤ) (text all : List ℕ) (b : List ℤ) (p : Saved) (out : List ℕ) (good : Good t text all b p out)
+module _ (file text all : List ℕ) (b : List ℤ) (p : Saved) (out : List ℕ) (good : Good file text all b p out)
     (most n : ℕ) (forms : List ℕ) (h : p .at + n ≤ length text) (m : length text < 2 ^ 64) where
+  abbrev t : List ℤ
+  t = words file
+
   abbrev input : List ℕ
   input = take n (drop (p .at) text)
 
@@ -177,12 +203,13 @@ module _ (t : List ℤ) (text all : List ℕ) (b : List ℤ) (p : Saved) (out : 
       ∙ lines-made t (going b p) input mid lines-is rest
       ∙ rw (take-at (Q .text) (drop (length (Q .text)) mid) (length (Q .text)) refl, ← drop-append-le used input rest u, take-append-drop n (drop (p .at) text), drop-drop used (p .at) text)
 
-  after : Q .job .code ≡ 0 → Good t text all (Q .job .block) (record { counts = Q .job .counts; at = p .at + used }) (put-at (327 * p .counts .frames) (Q .text) out)
+  after : Q .job .code ≡ 0 → Good file text all (Q .job .block) (record { counts = Q .job .counts; at = p .at + used; tables = p .tables }) (put-at (327 * p .counts .frames) (Q .text) out)
   unfolding going
   after c =
       let o : ℕ = 327 * p .counts .frames in
       let k : 327 * Q .job .counts .frames ≡ o + length (Q .text) = part-frames t (going b p) (min (327 * most) (length forms)) [] input in
       record {
+        of-tables = good .of-tables;
         reach = rw k (put-reach o (Q .text) out (good .reach));
         made =
             good .made
@@ -214,7 +241,7 @@ module _ (t : List ℤ) (text all : List ℕ) (b : List ℤ) (p : Saved) (out : 
   in-range = mod-eq-of-lt (let l : length input ≡ n = simp (length-take, length-drop) (omega arith) in omega arith)
 
   pub good-part : {job : Job} {at written left : ℕ} {forms′ : List ℕ} → Part.answer job at written left forms′ ≡ part t b p most input forms → job .code ≡ 0
-      → Good t text all (job .block) (record { counts = job .counts; at = at }) (put-at (327 * p .counts .frames) (take written forms′) out)
+      → Good file text all (job .block) (record { counts = job .counts; at = at; tables = p .tables }) (put-at (327 * p .counts .frames) (take written forms′) out)
   unfolding part taken over used
   good-part {job} {at} {written} {left} {forms′} e z =
       let j : job ≡ Q .job = cc in
@@ -240,13 +267,14 @@ module _ (t : List ℤ) (text all : List ℕ) (b : List ℤ) (p : Saved) (out : 
       rw (v, j) (stopped c)
 
 -- the text ends with these bytes behind its last line feed: the last form completes the output
-pub good-end : (t : List ℤ) (text all : List ℕ) (b : List ℤ) (p : Saved) (out : List ℕ) → Good t text all b p out
+pub good-end : (file text all : List ℕ) (b : List ℤ) (p : Saved) (out : List ℕ) → Good file text all b p out
     → Chunk.to-feed (drop (p .at) text) ≡ length (drop (p .at) text)
     → let f : List ℕ = last-form (p .counts) 0 (drop (p .at) text) in
     let o : ℕ = 327 * p .counts .frames in
     take (o + length f) (put-at o f out) ≡ all
 unfolding going printed
-good-end t text all b p out good h =
+good-end file text all b p out good h =
+    let t : List ℤ = words file in
     put-front (327 * p .counts .frames) (last-form (p .counts) 0 (drop (p .at) text)) out (good .reach)
     ∙ sym (good .made ∙ ap (λ (x : List ℕ). take (327 * p .counts .frames) out ++ x) (ap (λ (x : List ℕ). printed t (going b p) [] x) (sym (append-nil (drop (p .at) text))) ∙ sym (again t (going b p) [] (drop (p .at) text) [] h)))
 
@@ -256,14 +284,15 @@ unfolding last-form
 held-last c code a b h = rw (ne-eqb code 0 h)
 
 -- more bytes without a line feed than a line has: the refusal completes the output
-pub good-overlong : (t : List ℤ) (text all : List ℕ) (b : List ℤ) (p : Saved) (out : List ℕ) (n : ℕ) → Good t text all b p out
+pub good-overlong : (file text all : List ℕ) (b : List ℤ) (p : Saved) (out : List ℕ) (n : ℕ) → Good file text all b p out
     → let l : List ℕ = take n (drop (p .at) text) in
     let code : ℕ = Chunk.overlong l 0 in
     let f : List ℕ = last-form (p .counts) code l in
     let o : ℕ = 327 * p .counts .frames in
     (code ≡ 0 → ⊥) → take (o + length f) (put-at o f out) ≡ all
 unfolding going with-code
-good-overlong t text all b p out n good h =
+good-overlong file text all b p out n good h =
+    let t : List ℤ = words file in
     let l : List ℕ = take n (drop (p .at) text) in
     let code : ℕ = Chunk.overlong l 0 in
     let o : ℕ = 327 * p .counts .frames in

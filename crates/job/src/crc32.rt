@@ -1,4 +1,4 @@
-// CRC-32, the check sum of IEEE 802.3 that gzip and zlib use too, so that other tools can make and check a job file.
+// CRC-32, the check sum of IEEE 802.3 that gzip and zlib use too, so that other tools can make and check a job file, and name the table file that it belongs to.
 ghost use mathlib.Core.Path.{_≡_};
 ghost use Rattle.job.specs.Crc32.{bit, byte, crc32};
 
@@ -27,7 +27,7 @@ fn byte(c: u32, b: u8) -> u32
 }
 
 // The check sum of all bytes.
-pub(crate) fn crc32(bytes: &[u8]) -> u32
+pub fn crc32(bytes: &[u8]) -> u32
     ensures { λ r. ⌜ r ≡ crc32 (now (bytes .entry)) ⌝ }
 {
     let mut c = 0xffffffffu32;

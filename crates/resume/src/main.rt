@@ -120,7 +120,8 @@ fn step(
     }
     let counts = job.counts;
     let at = part.at;
-    keep(b, Saved { counts, at }, part.left, fds, state, name)
+    let tables = place.tables;
+    keep(b, Saved { counts, at, tables }, part.left, fds, state, name)
 }
 
 // One part: the text from the place on is read, and goes to `step`.
@@ -210,10 +211,11 @@ fn stop(p: Saved, out: i32, name: &[u8]) {
 fn run(text: &[u8], state: &[u8], name: &[u8], most: u32) {
     let mut t = [0i16; 1880];
     let mut b = [0i16; 234];
-    if !start::tables(&mut t, &mut b) {
+    let tables = start::tables(&mut t, &mut b);
+    if !tables.good {
         return;
     }
-    let s = start::state(state, &mut b);
+    let s = start::state(state, tables.sum, &mut b);
     if !s.good {
         return;
     }

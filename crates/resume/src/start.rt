@@ -3,8 +3,13 @@
 ghost use Prim.Native.Nat.{_≤_};
 ghost use lib.ListN.{length};
 use crate::files;
-use count::Counts;
 use job::Saved;
+
+// The CRC-32 of the table file, which the state file has to name; not good where the tables are refused.
+pub(crate) struct Checked {
+    pub sum: u32,
+    pub good: bool,
+}
 
 // Where the job goes on, and whether it is a new one; not good where it is refused.
 pub(crate) struct Begun {
@@ -33,14 +38,15 @@ fn read(name: &[u8], bytes: &mut [u8]) -> usize
     n
 }
 
-// The tables and the fresh state; false where they are refused.
-pub(crate) fn tables(t: &mut [i16; 1880], b: &mut [i16; 234]) -> bool {
+// The tables and the fresh state.
+pub(crate) fn tables(t: &mut [i16; 1880], b: &mut [i16; 234]) -> Checked {
     let name = b"tables.g729";
     let mut file = [0u8; 3761];
     let n = read(name, &mut file);
     let code = call::begin(&file[0..n], t, b);
     if code == 0 {
-        return true;
+        let sum = job::crc32::crc32(&file[0..n]);
+        return Checked { sum, good: true };
     }
     refuse(code);
     if code == 1 {
@@ -48,29 +54,29 @@ pub(crate) fn tables(t: &mut [i16; 1880], b: &mut [i16; 234]) -> bool {
     } else {
         files::say(name, b"the initial delay is not in 19..144");
     }
-    false
+    Checked {
+        sum: 0,
+        good: false,
+    }
 }
 
 fn say_state(name: &[u8], code: u32) {
     if code == 3 {
         files::say(
             name,
-            b"not 488 bytes, so no state file, or one that was cut short",
+            b"not 492 bytes, so no state file, one that was cut short, or one of the older form (488)",
         );
     } else if code == 22 {
         files::say(name, b"damaged: its check sum or its counts don't fit");
+    } else if code == 23 {
+        files::say(name, b"begun with another tables.g729 than the one here");
     } else {
         files::say(name, b"its predictor or its delay is out of range");
     }
 }
 
-fn nowhere() -> Saved {
-    let counts = Counts { frames: 0, lost: 0 };
-    Saved { counts, at: 0 }
-}
-
-// The state file; where there is none, a new job.
-pub(crate) fn state(name: &[u8], b: &mut [i16; 234]) -> Begun {
+// The state file, for tables of this CRC-32; where there is none, a new job.
+pub(crate) fn state(name: &[u8], tables: u32, b: &mut [i16; 234]) -> Begun {
     let fd = os::open_read(name);
     if fd < 0 {
         let fresh = os::errno() == libc::ENOENT;
@@ -78,15 +84,15 @@ pub(crate) fn state(name: &[u8], b: &mut [i16; 234]) -> Begun {
             os::fail(name);
         }
         return Begun {
-            place: nowhere(),
+            place: job::start(tables),
             fresh,
             good: fresh,
         };
     }
-    let mut file = [0u8; 489];
+    let mut file = [0u8; 493];
     let n = io::read_full(fd, &mut file);
     libc::close(fd);
-    let found = job::read(&file[0..n], b);
+    let found = job::read(&file[0..n], tables, b);
     let code = found.code;
     let place = found.place;
     if code != 0 {

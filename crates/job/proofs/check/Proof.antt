@@ -1,21 +1,22 @@
 -- `job::check` meets its contract: each test decides a part of it.
 use mathlib.Core.Path.{sym, _∙_}
 use borrow.Author.Tests.{not-true, not-false}
-use Rattle.job.specs.Laws.{check-length, check-sum, check-counts, check-state, block-is}
+use Rattle.job.specs.Laws.{check-length, check-sum, check-counts, check-tables, check-state, block-is}
 use borrow.Author.Needs.{needs}
 use Rattle.job.proofs.check.Statement.{statement}
 use Rattle.job.proofs.check.Tie as tie
 
 returns : tie.Need-returns
-returns c = check-length _ (c .if1 .taken)
+returns c = check-length _ _ (c .if1 .taken)
 
 returns-2 : tie.Need-returns-2
-returns-2 c = check-sum _ (c .before .before .if1 .left) (sym (c .before .sum-fits .ensures) ∙ not-true _ (c .if2 .taken))
+returns-2 c = check-sum _ _ (c .before .before .if1 .left) (sym (c .before .sum-fits .ensures) ∙ not-true _ (c .if2 .taken))
 
 returns-3 : tie.Need-returns-3
 returns-3 c =
     let e = c .before .before .before in
     check-counts
+    _
     _
     _
     (e .before .before .if1 .left)
@@ -25,11 +26,9 @@ returns-3 c =
 
 returns-4 : tie.Need-returns-4
 returns-4 c =
-    let d = c .before .before .before .before .before .before in
+    let d = c .before .before in
     let e = d .before .before .before in
-    let f = e .before .before .before .before .args .bytes .now in
-    check-state
-    f
+    check-tables
     _
     _
     _
@@ -37,6 +36,25 @@ returns-4 c =
     (sym (e .before .sum-fits .ensures) ∙ not-false _ (e .if2 .left))
     (d .before .before .place .ensures)
     (sym (d .before .counts-fit .ensures) ∙ not-false _ (d .if3 .left))
+    (c .if4 .taken)
+
+returns-5 : tie.Need-returns-5
+returns-5 c =
+    let k = c .before .before .before .before .before .before in
+    let d = k .before .before in
+    let e = d .before .before .before in
+    let f = e .before .before .before .before .args .bytes .now in
+    check-state
+    f
+    _
+    _
+    (e .before .before .if1 .left)
+    (sym (e .before .sum-fits .ensures) ∙ not-false _ (e .if2 .left))
+    (d .before .before .place .ensures)
+    _
+    _
+    (sym (d .before .counts-fit .ensures) ∙ not-false _ (d .if3 .left))
+    (k .if4 .left)
     (block-is f _ _ (e .before .before .if1 .left) (search needs) (c .before .before .before .from-bytes .ensures))
     (c .state-check .ensures)
 
@@ -50,6 +68,7 @@ check-spec =
     (λ c κs. search needs)
     (λ c κs. search needs)
     returns-3
+    returns-4
     (λ c. search needs)
     (λ c. search needs)
     (λ c. search needs)
@@ -57,4 +76,4 @@ check-spec =
     (λ c κs. search needs)
     (λ c. search needs)
     (λ c κs. search needs)
-    returns-4)
+    returns-5)

@@ -7,25 +7,33 @@ use Rattle.job.proofs.pack.Tie as tie
 
 returns : tie.Need-returns
 returns c =
-    let s = c .before .before .before .before .before .before .before .before .before .before .before .before .before .before .before .before .before .before .before .before .before in
+    let f = c .before .before .before in
+    let e₄ = f .before .before .before .before in
+    let e₃ = e₄ .before .before .before .before in
+    let e₂ = e₃ .before .before .before in
+    let e₁ = e₂ .before .before .before .before in
+    let d = e₁ .before .before .before .before in
+    let s = d .before .before .before in
     pack-whole
     (s .args .block .now)
     (s .args .p)
     _
-    (c .before .before .before .before .before .before .before .before .before .before .before .before .before .before .before .before .before .before .to-bytes .last .1 .0)
-    (c .before .before .before .before .before .before .before .before .before .before .before .before .before .before .put .last .1 .1 .1 .0)
-    (c .before .before .before .before .before .before .before .before .before .before .put2 .last .1 .1 .1 .0)
-    (c .before .before .before .before .before .before .before .put3 .last .1 .1 .1 .0)
+    (d .to-bytes .last .1 .0)
+    (e₁ .put .last .1 .1 .1 .0)
+    (e₂ .put2 .last .1 .1 .1 .0)
+    (e₃ .put3 .last .1 .1 .1 .0)
+    (e₄ .put4 .last .1 .1 .1 .0)
     _
     _
-    (omega (arith, c .before .before .before .before .before .before .before .before .before .before .before .before .before .before .before .before .before .before .before .before .to-bytes-arg .given))
+    (omega (arith, d .before .before .to-bytes-arg .given))
     (search needs)
-    (c .before .before .before .before .before .before .before .before .before .before .before .before .before .before .before .before .before .before .to-bytes .ensures)
-    (c .before .before .before .before .before .before .before .before .before .before .before .before .before .before .put .ensures)
-    (c .before .before .before .before .before .before .before .before .before .before .put2 .ensures)
-    (c .before .before .before .before .before .before .before .put3 .ensures)
-    (c .before .before .before .crc32 .ensures)
-    (c .before .put4 .ensures)
+    (d .to-bytes .ensures)
+    (e₁ .put .ensures)
+    (e₂ .put2 .ensures)
+    (e₃ .put3 .ensures)
+    (e₄ .put4 .ensures)
+    (f .crc32 .ensures)
+    (c .before .put5 .ensures)
     (search needs)
 
 pub pack-spec : {M : Type 1} → statement M
@@ -40,6 +48,9 @@ pack-spec =
     (λ c. search needs)
     (λ c. search needs)
     (λ c κs. search needs)
+    (λ c. search needs)
+    (λ c κs. search needs)
+    (λ c. search needs)
     (λ c. search needs)
     (λ c κs. search needs)
     (λ c. search needs)
