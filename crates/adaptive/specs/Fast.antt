@@ -7,7 +7,8 @@ use mathlib.Core.List.{List}
 use lib.Dec.{ltb}
 use lib.IntN.{ℤ, pos, _+ℤ_, _*ℤ_}
 use lib.Signed.{mag}
-use Rattle.laws.specs.Lists.{at, tab}
+use lib.ListN.{replicate}
+use Rattle.laws.specs.Lists.{at}
 use Rattle.laws.specs.Loops.{steps, run}
 use Rattle.basic_op.specs.Ops.{l-mac, round}
 
@@ -15,12 +16,13 @@ use Rattle.basic_op.specs.Ops.{l-mac, round}
 unfoldable pub tap : ℕ → ℕ → ℕ
 tap phase j = cond (ltb j 10) (phase + 3 * (9 - j)) (3 - phase + 3 * (j - 10))
 
-unfoldable pub taps : List ℤ → ℕ → List ℤ
-taps b30 phase = tab 20 (λ j. at b30 (tap phase j))
+-- the taps in the order of the words, written from o on over 32 zeros
+unfoldable pub taps : List ℤ → ℕ → ℕ → List ℤ
+taps b30 phase o = run (λ j e. at b30 (tap phase j)) o 20 (replicate 32 (pos 0))
 
--- `interpolate` by these taps
-unfoldable pub filtered : List ℤ → ℕ → List ℤ → ℤ
-filtered c x u = round (steps (λ i s. l-mac (l-mac s (at u (x - i)) (at c (9 - i))) (at u (x + 1 + i)) (at c (10 + i))) 10 (pos 0))
+-- `interpolate` by the taps from o on
+unfoldable pub filtered : List ℤ → ℕ → ℕ → List ℤ → ℤ
+filtered c o x u = round (steps (λ i s. l-mac (l-mac s (at u (x - i)) (at c (o + (9 - i)))) (at u (x + 1 + i)) (at c (o + (10 + i)))) 10 (pos 0))
 
 -- the sum of the first n products, the oldest word at p
 unfoldable pub dot : List ℤ → List ℤ → ℕ → ℕ → ℤ
@@ -36,11 +38,19 @@ Small l p n m = (j : ℕ) → j < n → mag (at l (p + j)) < m
 
 -- every sum of the first products fits 32 bits
 abbrev pub Sums : List ℤ → List ℤ → ℕ → Type 0
-Sums c u p = (n : ℕ) → n ≤ 20 → mag (dot c u p n) < 2 ^ 31
+Sums c u p = (n : ℕ) → n ≤ 32 → mag (dot c u p n) < 2 ^ 31
+
+-- all words but the twenty from o on are 0
+abbrev pub Padded : List ℤ → ℕ → Type 0
+Padded c o = ((j : ℕ) → j < o → at c j ≡ pos 0) × ((j : ℕ) → o + 20 ≤ j → at c j ≡ pos 0)
+
+-- every 32 words that a subframe at `from` reads, o of them before the oldest that a tap weighs, lie within the buffer
+abbrev pub Room : ℕ → ℕ → ℕ → Type 0
+Room o from k = (o ≤ 12) × ((22 ≤ k + o) × ((k + o + 9 ≤ from) × (from + 40 ≤ 234)))
 
 -- taps of a weight at which no sum of small words saturates, and places within the buffer
-abbrev pub Steady : List ℤ → ℕ → ℕ → Type 0
-Steady c from k = (weight c 20 ≤ 65534) × ((10 ≤ k) × ((k + 9 ≤ from) × (from + 40 ≤ 234)))
+abbrev pub Steady : List ℤ → ℕ → ℕ → ℕ → Type 0
+Steady c o from k = (weight c 32 ≤ 65534) × (Padded c o × Room o from k)
 
 -- what takes the first m words written from p on to the first n
 abbrev pub Goes : (ℕ → List ℤ → ℤ) → ℕ → ℕ → ℕ → List ℤ → List ℤ → Type 0

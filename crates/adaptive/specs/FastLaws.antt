@@ -1,27 +1,29 @@
--- Laws of equation (40) without saturation: words within a limit, sums of products by the weight of the taps, and that the shifted sum is what
--- `interpolate` gives. Assumes nothing.
+-- Laws of equation (40) without saturation: words within a limit, taps among zeros, sums of products by the weight of the taps, and that the
+-- shifted sum is what `interpolate` gives. Assumes nothing.
 use Prim.Native.Nat.{ℕ, zero, suc, _+_, _-_, _*_, _^_, _≤_, _<_, zero-le}
 use mathlib.Core.Path.{_≡_, refl, sym, ap, _∙_}
 use mathlib.Core.Bool.{Bool, true, false}
 use mathlib.Core.List.{List}
 use native.Mathlib.Omega.{arith}
-use native.Mathlib.Nat.{add-comm, add-assoc, mul-le-mul}
+use native.Mathlib.Nat.{add-comm, add-assoc, add-zero, add-suc, mul-le-mul}
 use native.Mathlib.Numerals.{add-one}
-use lib.Dec.{eqb}
-use lib.IntN.{ℤ, pos, natAbs, _+ℤ_, _*ℤ_, +ℤ-assoc, +ℤ-comm}
+use lib.Dec.{eqb, ltb}
+use lib.IntN.{ℤ, pos, natAbs, _+ℤ_, _*ℤ_, +ℤ-assoc, +ℤ-comm, +ℤ-idr, *ℤ-zero}
 use lib.Signed.{mag, shrZ, natAbs-le}
-use lib.ListN.{set}
+use lib.ListN.{length, set, replicate}
+use lib.Seq.{getD-set-same, getD-set-other}
+use mathlib.Core.Logic.{_≢_}
 use mir.Syntax.{w32}
 use mir.Val.{SFits}
-use borrow.Author.Tests.{lt-ltb, le-ltb, eqb-true, eqb-false}
-use Rattle.laws.specs.Lists.{at, tab, at-tab, at-set}
-use Rattle.laws.specs.Loops.{steps, steps-same, run}
+use borrow.Author.Tests.{lt-ltb, le-ltb, ltb-true, ltb-false, eqb-true, eqb-false}
+use Rattle.laws.specs.Lists.{at, at-set}
+use Rattle.laws.specs.Loops.{steps, steps-same, steps-still, run, length-run}
 use Rattle.laws.specs.Sums.{outward, abs-add, abs-sum, sum-grows}
 use Rattle.laws.specs.Range.{abs-mul, mag-abs}
 use Rattle.basic_op.specs.Ops.{l-mac, round}
 use Rattle.basic_op.specs.Laws.{mac-twice, round-twice}
 use Rattle.adaptive.specs.Adaptive.{interpolate}
-use Rattle.adaptive.specs.Fast.{tap, taps, filtered, dot, weight, Small, Sums}
+use Rattle.adaptive.specs.Fast.{tap, taps, filtered, dot, weight, Small, Sums, Padded}
 
 -- ---- words within a limit
 
@@ -48,72 +50,133 @@ small-set l p n m i v s h j t = at-set (λ z. mag z < m) l i (p + j) v h (s j t)
 pub abs-term : (x y : ℤ) → mag x < 16384 → natAbs (x *ℤ y) ≤ 16384 * (mag y + 1)
 abs-term x y h = rw abs-mul (mul-le-mul (natAbs-le x h) (natAbs-le y (omega arith)))
 
+-- a product with 0
+abs-none : (x y : ℤ) → y ≡ pos 0 → natAbs (x *ℤ y) ≤ 16384 * (mag y + 1)
+abs-none x y e = rw (e, *ℤ-zero) zero-le
+
 -- one product more
 module _ (c u : List ℤ) (p n : ℕ) (s v : ℤ) (e : s ≡ dot c u p n) (g : v ≡ at u (p + n) *ℤ at c n) where
   pub dot-next : s +ℤ v ≡ dot c u p (n + 1)
   unfolding dot steps
   dot-next = rw (add-one, e, g)
 
-  pub fits-next : Sums c u p → n + 1 ≤ 20 → SFits w32 (s +ℤ v)
+  pub fits-next : Sums c u p → n + 1 ≤ 32 → SFits w32 (s +ℤ v)
   fits-next h k = record { sfits = rw dot-next (h (n + 1) k) }
 
-module _ (c u : List ℤ) (p : ℕ) (light : weight c 20 ≤ 65534) (small : Small u p 20 16384) where
+-- steps in two parts
+steps-parts : {A : Type 0} (f : ℕ → A → A) (m n : ℕ) (s : A) → steps f (m + n) s ≡ steps (λ j. f (m + j)) n (steps f m s)
+unfolding steps
+steps-parts f m zero s = rw add-zero
+steps-parts f m (suc n) s = rw add-suc (ap (f (m + n)) (steps-parts f m n s))
+
+-- a part of a sum
+sum-part : (w : ℕ → ℕ) (m n : ℕ) → steps (λ j s. s + w (m + j)) n 0 ≤ steps (λ j s. s + w j) (m + n) 0
+unfolding steps
+sum-part w m zero = zero-le
+sum-part w m (suc n) = rw add-suc (omega (arith, sum-part w m n))
+
+-- twenty taps from o on among zeros; the first of them weighs the word at p
+module _ (c u : List ℤ) (p o : ℕ) (few : o ≤ 12) (room : o ≤ p) (light : weight c 32 ≤ 65534) (padded : Padded c o) (small : Small u p 20 16384) where
   product : ℕ → ℤ
-  product j = at u (p + j) *ℤ at c j
+  product j = at u (p - o + j) *ℤ at c j
 
   heavy : ℕ → ℕ
   heavy j = mag (at c j) + 1
 
-  bound : (j : ℕ) → j < 20 → natAbs (product j) ≤ 16384 * heavy j
+  -- of the twenty
+  term : ℕ → ℤ
+  term j = at u (p + j) *ℤ at c (o + j)
+
+  bound : (j : ℕ) → natAbs (product j) ≤ 16384 * heavy j
   unfolding product heavy
-  bound j h = abs-term (at u (p + j)) (at c j) (small j h)
+  bound j = by (ltb j o) refl (ltb j (o + 20)) refl
+    where
+      by : (a : Bool) → ltb j o ≡ a → (b : Bool) → ltb j (o + 20) ≡ b → natAbs (at u (p - o + j) *ℤ at c j) ≤ 16384 * (mag (at c j) + 1)
+      by true e b g = abs-none (at u (p - o + j)) (at c j) (padded .0 j (ltb-true j o e))
+      by false e true g =
+          let h : o ≤ j = ltb-false j o e in
+          let k : p + (j - o) ≡ p - o + j = omega arith in
+          abs-term (at u (p - o + j)) (at c j) (rw k at (small (j - o) (omega (arith, ltb-true j (o + 20) g))))
+      by false e false g = abs-none (at u (p - o + j)) (at c j) (padded .1 j (ltb-false j (o + 20) g))
 
-  dot-bound : (n k : ℕ) → k + n ≡ 20 → natAbs (dot c u p n) ≤ 1073709056
+  dot-bound : (n k : ℕ) → k + n ≡ 32 → natAbs (dot c u (p - o) n) ≤ 1073709056
   unfolding dot weight product heavy
-  dot-bound n k e = omega (arith, abs-sum product heavy 16384 n (λ j l. bound j (omega arith)), rw e at (sum-grows heavy n k))
+  dot-bound n k e = omega (arith, abs-sum product heavy 16384 n (λ j l. bound j), rw e at (sum-grows heavy n k))
 
-  pub sums-fit : Sums c u p
-  sums-fit n h = omega (arith, mag-abs (dot c u p n), dot-bound n (20 - n) (omega arith))
+  pub sums-fit : Sums c u (p - o)
+  sums-fit n h = omega (arith, mag-abs (dot c u (p - o) n), dot-bound n (32 - n) (omega arith))
 
-  pub fits-rounded : SFits w32 (dot c u p 20 +ℤ pos 16384)
-  fits-rounded = record { sfits = omega (arith, mag-abs (dot c u p 20 +ℤ pos 16384), abs-add (dot c u p 20) (pos 16384), dot-bound 20 0 refl) }
+  pub fits-rounded : SFits w32 (dot c u (p - o) 32 +ℤ pos 16384)
+  fits-rounded = record { sfits = omega (arith, mag-abs (dot c u (p - o) 32 +ℤ pos 16384), abs-add (dot c u (p - o) 32) (pos 16384), dot-bound 32 0 refl) }
+
+  -- the zeros add nothing to the sum
+  dot-padded : dot c u (p - o) 32 ≡ steps (λ j s. s +ℤ term j) 20 (pos 0)
+  unfolding dot term
+  dot-padded =
+      let front : steps f o (pos 0) ≡ pos 0 = steps-still f o (pos 0) (λ k h. none k (padded .0 k h) (pos 0)) in
+      let back : steps f (o + 20 + (12 - o)) (pos 0) ≡ steps f (o + 20) (pos 0) =
+      steps-parts f (o + 20) (12 - o) (pos 0) ∙ steps-still _ (12 - o) _ (λ k h. none (o + 20 + k) (padded .1 (o + 20 + k) (omega arith)) _) in
+      (λ i. steps f (parts i) (pos 0)) ∙ back ∙ steps-parts f o 20 (pos 0) ∙ ap (steps (λ j. f (o + j)) 20) front ∙ steps-same _ _ 20 (pos 0) (λ j h t. rw (place j))
+    where
+      f : ℕ → ℤ → ℤ
+      f j s = s +ℤ at u (p - o + j) *ℤ at c j
+
+      parts : 32 ≡ o + 20 + (12 - o)
+      parts = omega arith
+
+      none : (j : ℕ) → at c j ≡ pos 0 → (s : ℤ) → s +ℤ at u (p - o + j) *ℤ at c j ≡ s
+      none j e s = rw (e, *ℤ-zero, +ℤ-idr)
+
+      place : (j : ℕ) → p - o + (o + j) ≡ p + j
+      place j = omega arith
+
+  -- and 1 each to the weight, which is at least that of the twenty
+  weight-padded : steps (λ j s. s + heavy (o + j)) 20 0 ≤ weight c 32
+  unfolding weight heavy
+  weight-padded =
+      let e : 12 - o + (o + 20) ≡ 32 = omega arith in
+      omega (arith, sum-part heavy o 20, rw e at (sum-grows heavy (o + 20) (12 - o)))
+
+  term-bound : (j : ℕ) → j < 20 → natAbs (term j) ≤ 16384 * heavy (o + j)
+  unfolding term heavy
+  term-bound j h = abs-term (at u (p + j)) (at c (o + j)) (small j h)
 
   pairs : ℕ → ℤ
-  pairs n = steps (λ i s. s +ℤ product (9 - i) +ℤ product (10 + i)) n (pos 0)
+  pairs n = steps (λ i s. s +ℤ term (9 - i) +ℤ term (10 + i)) n (pos 0)
 
   heavies : ℕ → ℕ
-  heavies n = steps (λ i s. s + heavy (9 - i) + heavy (10 + i)) n 0
+  heavies n = steps (λ i s. s + heavy (o + (9 - i)) + heavy (o + (10 + i))) n 0
 
   macs : ℕ → ℤ
-  macs n = steps (λ i s. l-mac (l-mac s (at u (p + (9 - i))) (at c (9 - i))) (at u (p + (10 + i))) (at c (10 + i))) n (pos 0)
+  macs n = steps (λ i s. l-mac (l-mac s (at u (p + (9 - i))) (at c (o + (9 - i)))) (at u (p + (10 + i))) (at c (o + (10 + i)))) n (pos 0)
 
   pairs-bound : (n : ℕ) → n ≤ 10 → natAbs (pairs n) ≤ 16384 * heavies n
   unfolding pairs heavies steps
   pairs-bound zero h = zero-le
   pairs-bound (suc n) h =
-      omega (arith, abs-add (pairs n +ℤ product (9 - n)) (product (10 + n)), abs-add (pairs n) (product (9 - n)), pairs-bound n (omega arith), bound (9 - n) (omega arith), bound (10 + n) (omega arith))
+      omega (arith, abs-add (pairs n +ℤ term (9 - n)) (term (10 + n)), abs-add (pairs n) (term (9 - n)), pairs-bound n (omega arith), term-bound (9 - n) (omega arith), term-bound (10 + n) (omega arith))
 
   macs-twice : (n : ℕ) → n ≤ 10 → heavies n ≤ 65534 → macs n ≡ pairs n +ℤ pairs n
-  unfolding pairs heavies macs steps product
+  unfolding pairs heavies macs steps term
   macs-twice zero h l = refl
   macs-twice (suc n) h l =
       let b : natAbs (pairs n) ≤ 16384 * heavies n = pairs-bound n (omega arith) in
-      let y : natAbs (product (9 - n)) ≤ 16384 * heavy (9 - n) = bound (9 - n) (omega arith) in
-      let z : natAbs (product (10 + n)) ≤ 16384 * heavy (10 + n) = bound (10 + n) (omega arith) in
+      let y : natAbs (term (9 - n)) ≤ 16384 * heavy (o + (9 - n)) = term-bound (9 - n) (omega arith) in
+      let z : natAbs (term (10 + n)) ≤ 16384 * heavy (o + (10 + n)) = term-bound (10 + n) (omega arith) in
       rw (
         macs-twice n (omega arith) (omega arith),
-        mac-twice (pairs n) (at u (p + (9 - n))) (at c (9 - n)) (16384 * heavies n) (16384 * heavy (9 - n)) b y (omega arith),
+        mac-twice (pairs n) (at u (p + (9 - n))) (at c (o + (9 - n))) (16384 * heavies n) (16384 * heavy (o + (9 - n))) b y (omega arith),
       )
-      (mac-twice (pairs n +ℤ product (9 - n)) (at u (p + (10 + n))) (at c (10 + n)) (16384 * (heavies n + heavy (9 - n))) (16384 * heavy (10 + n)) (omega (arith, abs-add (pairs n) (product (9 - n)))) z (omega arith))
+      (mac-twice (pairs n +ℤ term (9 - n)) (at u (p + (10 + n))) (at c (o + (10 + n))) (16384 * (heavies n + heavy (o + (9 - n)))) (16384 * heavy (o + (10 + n))) (omega (arith, abs-add (pairs n) (term (9 - n)))) z (omega arith))
 
-  in-order : macs 10 ≡ dot c u p 20 +ℤ dot c u p 20
-  unfolding dot weight pairs heavies product heavy
+  in-order : macs 10 ≡ dot c u (p - o) 32 +ℤ dot c u (p - o) 32
+  unfolding pairs heavies
   in-order =
-      let e : dot c u p 20 ≡ pairs 10 = outward _+ℤ_ (pos 0) +ℤ-assoc +ℤ-comm product 9 in
-      let f : weight c 20 ≡ heavies 10 = outward _+_ 0 add-assoc add-comm heavy 9 in
-      rw e (macs-twice 10 (omega arith) (omega arith))
+      let e : dot c u (p - o) 32 ≡ pairs 10 = dot-padded ∙ outward _+ℤ_ (pos 0) +ℤ-assoc +ℤ-comm term 9 in
+      let f : steps (λ j s. s + heavy (o + j)) 20 0 ≡ heavies 10 = outward _+_ 0 add-assoc add-comm (λ j. heavy (o + j)) 9 in
+      rw e (macs-twice 10 (omega arith) (omega (arith, weight-padded)))
 
-  places : filtered c (p + 9) u ≡ round (macs 10)
+  places : filtered c o (p + 9) u ≡ round (macs 10)
   unfolding filtered macs
   places = ap round (steps-same _ _ 10 (pos 0) (λ i h t. rw (before i h, after i)))
     where
@@ -123,8 +186,8 @@ module _ (c u : List ℤ) (p : ℕ) (light : weight c 20 ≤ 65534) (small : Sma
       after : (i : ℕ) → p + 9 + 1 + i ≡ p + (10 + i)
       after i = omega arith
 
-  pub filtered-is : shrZ (dot c u p 20 +ℤ pos 16384) (2 ^ 15) ≡ filtered c (p + 9) u
-  filtered-is = sym (places ∙ ap round in-order ∙ round-twice (dot c u p 20) (omega (arith, dot-bound 20 0 refl)))
+  pub filtered-is : shrZ (dot c u (p - o) 32 +ℤ pos 16384) (2 ^ 15) ≡ filtered c o (p + 9) u
+  filtered-is = sym (places ∙ ap round in-order ∙ round-twice (dot c u (p - o) 32) (omega (arith, dot-bound 32 0 refl)))
 
 -- ---- the taps are those of `interpolate`
 
@@ -136,16 +199,50 @@ tap-after : (phase i : ℕ) → tap phase (10 + i) ≡ 3 - phase + 3 * i
 unfolding tap
 tap-after phase i = rw (le-ltb (10 + i) 10 (omega arith)) (omega arith)
 
-pub by-taps : (b30 : List ℤ) (phase x : ℕ) (u : List ℤ) → filtered (taps b30 phase) x u ≡ interpolate b30 phase x u
-unfolding filtered interpolate taps
-by-taps b30 phase x u = ap round (steps-same _ _ 10 (pos 0) (λ i h t. rw (near i h, far i h)))
+-- words written from p on: one of them
+run-in : (g : ℕ → ℤ) (p n : ℕ) (l : List ℤ) (j : ℕ) → p + n ≤ length l → j < n → at (run (λ k e. g k) p n l) (p + j) ≡ g j
+unfolding run
+run-in g p zero l j h k = absurd (omega arith)
+run-in g p (suc n) l j h k = by (eqb j n) refl (run-in g p n l j (omega arith))
   where
-    near : (i : ℕ) → i < 10 → at (tab 20 (λ j. at b30 (tap phase j))) (9 - i) ≡ at b30 (phase + 3 * i)
-    near i h = at-tab _ 20 (9 - i) (omega arith) ∙ ap (at b30) (tap-before phase i h)
+    by : (b : Bool) → eqb j n ≡ b → (j < n → at (run (λ k e. g k) p n l) (p + j) ≡ g j) → at (set (run (λ k e. g k) p n l) (p + n) (g n)) (p + j) ≡ g j
+    by true e r = rw (eqb-true j n e) (getD-set-same (run (λ k e. g k) p n l) (p + n) (g n) (pos 0) (omega (arith, length-run (λ k e. g k) p n l)))
+    by false e r =
+        getD-set-other (run (λ k e. g k) p n l) (p + n) (p + j) (g n) (pos 0) (λ q. omega (arith, eqb-false j n e)) ∙ r (omega (arith, eqb-false j n e))
 
-    far : (i : ℕ) → i < 10 → at (tab 20 (λ j. at b30 (tap phase j))) (10 + i) ≡ at b30 (3 - phase + 3 * i)
-    far i h = at-tab _ 20 (10 + i) (omega arith) ∙ ap (at b30) (tap-after phase i)
+-- a word that is none of them
+run-out : (f : ℕ → List ℤ → ℤ) (p n : ℕ) (l : List ℤ) (i : ℕ) → ((j : ℕ) → j < n → i ≢ p + j) → at (run f p n l) i ≡ at l i
+unfolding run
+run-out f p zero l i h = refl
+run-out f p (suc n) l i h = getD-set-other (run f p n l) (p + n) i (f n (run f p n l)) (pos 0) (h n (omega arith)) ∙ run-out f p n l i (λ j k. h j (omega arith))
 
-pub words-by-taps : (b30 c : List ℤ) (phase k p n : ℕ) (l x : List ℤ) → c ≡ taps b30 phase → x ≡ run (λ j e. filtered c (p + j - k) e) p n l → x ≡ run (λ j e. interpolate b30 phase (p + j - k) e) p n l
-words-by-taps b30 c phase k p n l x e g =
-    g ∙ ap (λ (d : List ℤ). run (λ j e. filtered d (p + j - k) e) p n l) e ∙ (λ i. run (λ j e. by-taps b30 phase (p + j - k) e i) p n l)
+at-zeros : (n i : ℕ) → at (replicate n (pos 0)) i ≡ pos 0
+at-zeros zero i = refl
+at-zeros (suc n) zero = refl
+at-zeros (suc n) (suc i) = at-zeros n i
+
+at-taps : (b30 : List ℤ) (phase o j : ℕ) → o ≤ 12 → j < 20 → at (taps b30 phase o) (o + j) ≡ at b30 (tap phase j)
+unfolding taps
+at-taps b30 phase o j h k = run-in (λ j. at b30 (tap phase j)) o 20 (replicate 32 (pos 0)) j (omega arith) k
+
+pub taps-padded : (b30 c : List ℤ) (phase o : ℕ) → c ≡ taps b30 phase o → Padded c o
+unfolding taps
+taps-padded b30 c phase o e =
+    rw e (
+      (λ j h. run-out _ o 20 _ j (λ i k q. omega arith) ∙ at-zeros 32 j),
+      λ j h. run-out _ o 20 _ j (λ i k q. omega arith) ∙ at-zeros 32 j,
+    )
+
+pub by-taps : (b30 : List ℤ) (phase o x : ℕ) (u : List ℤ) → o ≤ 12 → filtered (taps b30 phase o) o x u ≡ interpolate b30 phase x u
+unfolding filtered interpolate
+by-taps b30 phase o x u l = ap round (steps-same _ _ 10 (pos 0) (λ i h t. rw (near i h, far i h)))
+  where
+    near : (i : ℕ) → i < 10 → at (taps b30 phase o) (o + (9 - i)) ≡ at b30 (phase + 3 * i)
+    near i h = at-taps b30 phase o (9 - i) l (omega arith) ∙ ap (at b30) (tap-before phase i h)
+
+    far : (i : ℕ) → i < 10 → at (taps b30 phase o) (o + (10 + i)) ≡ at b30 (3 - phase + 3 * i)
+    far i h = at-taps b30 phase o (10 + i) l (omega arith) ∙ ap (at b30) (tap-after phase i)
+
+pub words-by-taps : (b30 c : List ℤ) (phase o k p n : ℕ) (l x : List ℤ) → o ≤ 12 → c ≡ taps b30 phase o → x ≡ run (λ j e. filtered c o (p + j - k) e) p n l → x ≡ run (λ j e. interpolate b30 phase (p + j - k) e) p n l
+words-by-taps b30 c phase o k p n l x h e g =
+    g ∙ ap (λ (d : List ℤ). run (λ j e. filtered d o (p + j - k) e) p n l) e ∙ (λ i. run (λ j e. by-taps b30 phase o (p + j - k) e h i) p n l)

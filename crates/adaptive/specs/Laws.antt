@@ -147,9 +147,9 @@ lag-most t0 frac = omega arith
 
 -- every word that is read or written stands within the buffer
 pub places : (t0 frac : ℤ) (k p from : ℕ) → k ≡ lag t0 frac → p ≡ phase frac → 153 ≤ from → from ≤ 194
-    → (p ≤ 2) × ((10 ≤ k) × ((k + 9 ≤ from) × (from + 40 ≤ 234)))
+    → (p ≤ 2) × ((10 ≤ k) × ((k ≤ 144) × ((153 ≤ from) × (from + 40 ≤ 234))))
 places t0 frac k p from ek ep l h =
-    rw (ek, ep) (phase-most frac, (lag-least t0 frac, (omega (arith, lag-most t0 frac), omega arith)))
+    rw (ek, ep) (phase-most frac, (lag-least t0 frac, (lag-most t0 frac, (l, omega arith))))
 
 -- the vector by the code's numbers
 pub vector-is : (b30 exc out : List ℤ) (second b : Bool) (t0 frac : ℤ) (k p : ℕ) → second ≡ b → k ≡ lag t0 frac → p ≡ phase frac

@@ -1,10 +1,20 @@
 // Equation (40) of G.729 clause 3.7.1 without saturation, where taps and words are small enough that no partial sum leaves 31 bits.
+// The twenty taps stand in an array of 32 with zeros around them: only for a power of two does the compiler make all products in pairs
+// (`pmaddwd`), and 32 then take fewer instructions than twenty.
 ghost use mathlib.Core.Path.{_≡_};
 ghost use Prim.Native.Nat.{_+_, _-_, _≤_, _<_};
 ghost use lib.IntN.{_*ℤ_};
 ghost use lib.Signed.{mag};
 ghost use Rattle.laws.specs.Loops.{run};
-ghost use Rattle.adaptive.specs.Fast.{tap, taps, weight, dot, filtered, Small, Sums, Steady, Goes};
+ghost use Rattle.adaptive.specs.Fast.{tap, taps, weight, dot, filtered, Small, Sums, Padded, Room, Steady, Goes};
+
+// How many of the zeros stand in front of the taps, so that all 32 words read lie within the buffer.
+pub(crate) fn offset(k: usize) -> usize
+    requires { ⌜ (10 ≤ k) × (k ≤ 144) ⌝ }
+    ensures { λ r. ⌜ (r ≤ 12) × ((22 ≤ k + r) × (k + r ≤ 144)) ⌝ }
+{
+    if k < 22 { 12 } else { 0 }
+}
 
 // Where tap j of the phase stands in the filter; tap 9 weighs the word in the middle.
 fn tap(phase: usize, j: usize) -> usize
@@ -17,15 +27,15 @@ fn tap(phase: usize, j: usize) -> usize
     3 - phase + 3 * (j - 10)
 }
 
-// The twenty taps of the phase in the order of the words, oldest first.
-pub(crate) fn taps(b30: &[i16; 31], phase: usize) -> [i16; 20]
-    requires { ⌜ phase ≤ 2 ⌝ }
-    ensures { λ r. ⌜ r ≡ taps (now (b30 .entry)) phase ⌝ }
+// The twenty taps of the phase in the order of the words, oldest first, from `offset` on.
+pub(crate) fn taps(b30: &[i16; 31], phase: usize, offset: usize) -> [i16; 32]
+    requires { ⌜ (phase ≤ 2) × (offset ≤ 12) ⌝ }
+    ensures { λ r. ⌜ r ≡ taps (now (b30 .entry)) phase offset ⌝ }
 {
-    let mut c = [0i16; 20];
+    let mut c = [0i16; 32];
     let mut j = 0;
     while j < 20 {
-        c[j] = b30[tap(phase, j)];
+        c[offset + j] = b30[tap(phase, j)];
         j += 1;
     }
     c
@@ -39,12 +49,12 @@ fn magnitude(x: i16) -> u16
 }
 
 // At least the sum of the taps without their signs.
-fn weight(c: &[i16; 20]) -> u32
-    ensures { λ r. ⌜ r ≡ weight (now (c .entry)) 20 ⌝ }
+fn weight(c: &[i16; 32]) -> u32
+    ensures { λ r. ⌜ r ≡ weight (now (c .entry)) 32 ⌝ }
 {
     let mut s = 0u32;
     let mut j = 0;
-    while j < 20 {
+    while j < 32 {
         s += magnitude(c[j]) as u32 + 1;
         j += 1;
     }
@@ -72,43 +82,44 @@ fn times(a: i16, b: i16) -> i32
     a as i32 * b as i32
 }
 
-// The sum of the twenty products, the oldest word at `from`.
-fn dot(c: &[i16; 20], exc: &[i16; 234], from: usize) -> i32
-    requires { ⌜ (from + 20 ≤ 234) × Sums (now c) (now exc) from ⌝ }
-    ensures { λ r. ⌜ r ≡ dot (now (c .entry)) (now (exc .entry)) from 20 ⌝ }
+// The sum of the 32 products, the oldest word at `from`; a word that meets a zero may have any size.
+fn dot(c: &[i16; 32], exc: &[i16; 234], from: usize) -> i32
+    requires { ⌜ (from + 32 ≤ 234) × Sums (now c) (now exc) from ⌝ }
+    ensures { λ r. ⌜ r ≡ dot (now (c .entry)) (now (exc .entry)) from 32 ⌝ }
 {
     let mut s = 0i32;
     let mut j = 0;
-    while j < 20 {
+    while j < 32 {
         s += times(exc[from + j], c[j]);
         j += 1;
     }
     s
 }
 
-// The word whose oldest term is at `from`, rounded; beyond 16 bits it is not limited.
-fn word(c: &[i16; 20], exc: &[i16; 234], from: usize) -> i32
-    requires { ⌜ (from + 20 ≤ 234) × ((weight (now c) 20 ≤ 65534) × Small (now exc) from 20 16384) ⌝ }
-    ensures { λ r. ⌜ r ≡ filtered (now (c .entry)) (from + 9) (now (exc .entry)) ⌝ }
+// The word whose oldest term is at `from`, by the taps from `offset` on, rounded; beyond 16 bits it is not limited.
+fn word(c: &[i16; 32], exc: &[i16; 234], from: usize, offset: usize) -> i32
+    requires { ⌜ (offset ≤ 12) × ((offset ≤ from) × ((from + 32 ≤ 234 + offset) × ((weight (now c) 32 ≤ 65534) × (Padded (now c) offset × Small (now exc) from 20 16384)))) ⌝ }
+    ensures { λ r. ⌜ r ≡ filtered (now (c .entry)) offset (from + 9) (now (exc .entry)) ⌝ }
 {
-    basic_op::sar32(dot(c, exc, from) + 16384, 15)
+    basic_op::sar32(dot(c, exc, from - offset) + 16384, 15)
 }
 
 // Words `start` to `end` of the subframe at `from`, up to the first that is not small; where it stopped.
 fn words(
-    c: &[i16; 20],
+    c: &[i16; 32],
     exc: &mut [i16; 234],
     from: usize,
     k: usize,
+    offset: usize,
     start: usize,
     end: usize,
 ) -> usize
-    requires { ⌜ Steady (now c) from k × ((start ≤ end) × ((end ≤ 40) × Small (now exc) (from - k - 9) 59 16384)) ⌝ }
-    ensures { λ r. ⌜ (r ≤ end) × (Small (now (exc .exit)) (from - k - 9) 59 16384 × Goes (λ n e. filtered (now (c .entry)) (from + n - k) e) from start r (now (exc .entry)) (now (exc .exit))) ⌝ }
+    requires { ⌜ Steady (now c) offset from k × ((start ≤ end) × ((end ≤ 40) × Small (now exc) (from - k - 9) 59 16384)) ⌝ }
+    ensures { λ r. ⌜ (r ≤ end) × (Small (now (exc .exit)) (from - k - 9) 59 16384 × Goes (λ n e. filtered (now (c .entry)) offset (from + n - k) e) from start r (now (exc .entry)) (now (exc .exit))) ⌝ }
 {
     let mut n = start;
     while n < end {
-        let w = word(c, exc, from + n - k - 9);
+        let w = word(c, exc, from + n - k - 9, offset);
         if w > 16383 {
             return n;
         }
@@ -122,10 +133,16 @@ fn words(
 }
 
 // The first words of a subframe; none where a tap or a word is too large. There are two calls of `words` so that the compiler keeps it a
-// function: inlined, its taps become twenty scalars, and no product is made by a vector instruction.
-pub(crate) fn first_words(c: &[i16; 20], exc: &mut [i16; 234], from: usize, k: usize) -> usize
-    requires { ⌜ (10 ≤ k) × ((k + 9 ≤ from) × (from + 40 ≤ 234)) ⌝ }
-    ensures { λ r. ⌜ (r ≤ 40) × (now (exc .exit) ≡ run (λ n e. filtered (now (c .entry)) (from + n - k) e) from r (now (exc .entry))) ⌝ }
+// function: inlined, its taps become scalars, and no product is made by a vector instruction.
+pub(crate) fn first_words(
+    c: &[i16; 32],
+    exc: &mut [i16; 234],
+    from: usize,
+    k: usize,
+    offset: usize,
+) -> usize
+    requires { ⌜ Padded (now c) offset × Room offset from k ⌝ }
+    ensures { λ r. ⌜ (r ≤ 40) × (now (exc .exit) ≡ run (λ n e. filtered (now (c .entry)) offset (from + n - k) e) from r (now (exc .entry))) ⌝ }
 {
     if weight(c) > 65534 {
         return 0;
@@ -133,9 +150,9 @@ pub(crate) fn first_words(c: &[i16; 20], exc: &mut [i16; 234], from: usize, k: u
     if greatest(exc, from - k - 9) > 16383 {
         return 0;
     }
-    let half = words(c, exc, from, k, 0, 20);
+    let half = words(c, exc, from, k, offset, 0, 20);
     if half < 20 {
         return half;
     }
-    words(c, exc, from, k, 20, 40)
+    words(c, exc, from, k, offset, 20, 40)
 }

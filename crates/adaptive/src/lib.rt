@@ -230,11 +230,12 @@ fn rest(b30: &[i16; 31], exc: &mut [i16; 234], from: usize, k: usize, phase: usi
 
 // Forty words from `from` on: the first ones without saturation, as far as that goes.
 fn vector(b30: &[i16; 31], exc: &mut [i16; 234], from: usize, k: usize, phase: usize)
-    requires { ⌜ (phase ≤ 2) × ((10 ≤ k) × ((k + 9 ≤ from) × (from + 40 ≤ 234))) ⌝ }
+    requires { ⌜ (phase ≤ 2) × ((10 ≤ k) × ((k ≤ 144) × ((153 ≤ from) × (from + 40 ≤ 234)))) ⌝ }
     ensures { λ r. ⌜ now (exc .exit) ≡ run (λ n e. interpolate (now (b30 .entry)) phase (from + n - k) e) from 40 (now (exc .entry)) ⌝ }
 {
-    let c = fast::taps(b30, phase);
-    let done = fast::first_words(&c, exc, from, k);
+    let offset = fast::offset(k);
+    let c = fast::taps(b30, phase, offset);
+    let done = fast::first_words(&c, exc, from, k, offset);
     rest(b30, exc, from, k, phase, done);
 }
 

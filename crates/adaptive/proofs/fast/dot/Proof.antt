@@ -16,10 +16,10 @@ use Rattle.adaptive.proofs.fast.dot.Statement.{statement}
 use Rattle.adaptive.proofs.fast.dot.Tie as tie
 
 abbrev Inv-loop : tie.InvT-loop
-Inv-loop c exc from s₀ j₀ s j = (j ≤ 20) × (toZ w32 s ≡ dot c exc from j)
+Inv-loop c exc from s₀ j₀ s j = (j ≤ 32) × (toZ w32 s ≡ dot c exc from j)
 
 abbrev μ-loop : tie.MeasureT-loop
-μ-loop c exc from s₀ j₀ s j = 20 - j
+μ-loop c exc from s₀ j₀ s j = 32 - j
 
 loop-holds : tie.Need-loop-holds Inv-loop μ-loop
 unfolding dot steps

@@ -13,10 +13,10 @@ use Rattle.adaptive.proofs.fast.weight.Statement.{statement}
 use Rattle.adaptive.proofs.fast.weight.Tie as tie
 
 abbrev Inv-loop : tie.InvT-loop
-Inv-loop c s₀ j₀ s j = (j ≤ 20) × ((s ≤ 32768 * j) × (s ≡ weight c j))
+Inv-loop c s₀ j₀ s j = (j ≤ 32) × ((s ≤ 32768 * j) × (s ≡ weight c j))
 
 abbrev μ-loop : tie.MeasureT-loop
-μ-loop c s₀ j₀ s j = 20 - j
+μ-loop c s₀ j₀ s j = 32 - j
 
 loop-holds : tie.Need-loop-holds Inv-loop μ-loop
 unfolding weight steps

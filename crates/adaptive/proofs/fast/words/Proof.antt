@@ -17,16 +17,16 @@ use Rattle.adaptive.proofs.fast.words.Statement.{statement}
 use Rattle.adaptive.proofs.fast.words.Tie as tie
 
 abbrev Inv-loop : tie.InvT-loop
-Inv-loop c exc₀ from k start end n₀ exc n = (n ≤ end) × (Small exc (from - k - 9) 59 16384 × Goes (λ j e. filtered c (from + j - k) e) from start n exc₀ exc)
+Inv-loop c exc₀ from k offset start end n₀ exc n = (n ≤ end) × (Small exc (from - k - 9) 59 16384 × Goes (λ j e. filtered c offset (from + j - k) e) from start n exc₀ exc)
 
 abbrev μ-loop : tie.MeasureT-loop
-μ-loop c exc₀ from k start end n₀ exc n = end - n
+μ-loop c exc₀ from k offset start end n₀ exc n = end - n
 
 word-requires : tie.Need-word-requires Inv-loop μ-loop
 word-requires c κs =
     let l = c .before .before in
     let a = l .before .args in
-    (search needs, (l .before .pre .0 .0, small-part (l .loop .exc) (a .from - a .k - 9) 59 16384 (a .from + l .loop .n - a .k - 9) 20 (l .loop .inv .1 .0) (omega arith) (omega arith)))
+    (search needs, (search needs, (search needs, (l .before .pre .0 .0, (l .before .pre .0 .1 .0, small-part (l .loop .exc) (a .from - a .k - 9) 59 16384 (a .from + l .loop .n - a .k - 9) 20 (l .loop .inv .1 .0) (omega arith) (omega arith))))))
 
 returns : tie.Need-returns Inv-loop μ-loop
 returns c = (search needs, c .before .before .before .before .loop .inv .1)
@@ -49,7 +49,7 @@ loop-again c =
       search needs,
       (
         small-set (l .loop .exc) (a .from - a .k - 9) 59 16384 (a .from + l .loop .n) (toZ w16 (ofZ w16 z)) (l .loop .inv .1 .0) (rw e (omega arith)),
-        λ l₀ g. write _ _ _ _ _ _ (l .loop .inv .1 .1 l₀ g) (e ∙ came w32 (w .word) ∙ w .word .ensures ∙ ap (λ (x : ℕ). filtered (a .c .now) x (l .loop .exc)) p),
+        λ l₀ g. write _ _ _ _ _ _ (l .loop .inv .1 .1 l₀ g) (e ∙ came w32 (w .word) ∙ w .word .ensures ∙ ap (λ (x : ℕ). filtered (a .c .now) (a .offset) x (l .loop .exc)) p),
       ),
     )
 
