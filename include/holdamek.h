@@ -9,7 +9,7 @@
  * A length counts elements, not bytes. A wrong length is refused before the memory is touched; so NULL with length 0 is refused where
  * another length is due, and is right for the payload of HOLDAMEK_NO_TRANSMISSION and HOLDAMEK_ERASED.
  *
- * What no function can notice, and the caller sees to: a pointer with a right length points to that much memory of its type, NULL never;
+ * What no function can notice, and the caller sees to: a pointer with a right length isn't NULL and points to that much memory of its type;
  * `kind`, `frames` and `lost` are never NULL; and what is lent for writing overlaps nothing else that is lent in the same call. */
 #ifndef HOLDAMEK_H
 #define HOLDAMEK_H

@@ -83,6 +83,8 @@ int main(int argc, char **argv)
             return refused(code, frames);
         print_samples(samples);
     }
+    if (ferror(stdin))
+        return 2;
     printf("(total (frames %u) (lost %u))\n", (unsigned)frames, (unsigned)lost);
-    return ferror(stdin) || fflush(stdout) != 0 ? 2 : 0;
+    return fflush(stdout) != 0 ? 2 : 0;
 }
