@@ -18,8 +18,9 @@ use Rattle.gain.specs.Gain as gain
 use Rattle.plc.specs.Kinds.{decide}
 use Rattle.state.specs.declared.Params.{Params}
 use Rattle.state.specs.State.{Signal, State, read, accepted}
-use Rattle.decoder.specs.declared.Decoded.{Decoded}
-use Rattle.decoder.specs.Frame.{to-lsp, subframe, voice, parameters, Buffers, frame-signal, decode}
+use Rattle.parameters.specs.declared.Decoded.{Decoded}
+use Rattle.parameters.specs.Parameters.{to-lsp, subframe, voice, parameters}
+use Rattle.decoder.specs.Frame.{Buffers, frame-signal, decode}
 use Rattle.agreement.specs.Demand.{Call, FrameValues, delays, pitch-gains, fixed-gains, frequencies, filters, signal-before, samples, All, VoiceWith, PassesParity, DelaysInRange, Alike, Agreement}
 use Rattle.agreement.proofs.Ranges.{delays-good, accepted-after-frame}
 use Rattle.agreement.specs.Run.{code, given, said, run}

@@ -15,6 +15,7 @@ use Rattle.fixed.specs.Fixed as fixed
 use Rattle.gain.specs.Gain as gain
 use Rattle.plc.specs.Kinds as plc
 use Rattle.state.specs.State as state
+use Rattle.parameters.specs.Parameters as parameters
 use Rattle.decoder.specs.Frame as decoder
 use Rattle.decoder.specs.Call as call
 use Rattle.agreement.specs.Demand as demand
@@ -29,5 +30,5 @@ unfolding Operators tables.row tables.log2 tables.scalar tables.table-check form
 Stages = Unit {0}
 
 unfoldable pub Run : Type 0
-unfolding Stages plc.payload-length plc.decide state.part state.read-params state.read-signal state.read state.a-delay state.a-predictor state.accepted state.state-check state.accepted-state decoder.sharpened decoder.subframe decoder.voice decoder.parameters decoder.decode call.input-check runs.code runs.given runs.said runs.run
+unfolding Stages plc.payload-length plc.decide state.part state.read-params state.read-signal state.read state.a-delay state.a-predictor state.accepted state.state-check state.accepted-state parameters.sharpened parameters.subframe parameters.voice parameters.parameters decoder.decode call.input-check runs.code runs.given runs.said runs.run
 Run = Unit {0}

@@ -20,8 +20,9 @@ use Rattle.plc.specs.declared.Decision.the-variants.{Voice, Concealment}
 use Rattle.state.specs.declared.Params.{Params}
 use Rattle.state.specs.State.{Signal, State}
 use Rattle.state.specs.Laws.{Sized}
-use Rattle.decoder.specs.declared.Subframe.{Subframe}
-use Rattle.decoder.specs.Frame.{voice, conceal, parameters, Buffers, frame-buffers, subframe-signal, frame-signal, decode}
+use Rattle.parameters.specs.declared.Subframe.{Subframe}
+use Rattle.parameters.specs.Parameters.{voice, conceal, parameters}
+use Rattle.decoder.specs.Frame.{Buffers, frame-buffers, subframe-signal, frame-signal, decode}
 
 length-spread : (spacing : ℤ) (k : ℕ) (l : List ℤ) → length (spread-pair spacing k l) ≡ length l
 unfolding spread-pair

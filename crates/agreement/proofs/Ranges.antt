@@ -15,7 +15,7 @@ use Rattle.plc.specs.declared.Decision.{Decision}
 use Rattle.plc.specs.declared.Decision.the-variants.{Voice, Concealment}
 use Rattle.state.specs.declared.Params.{Params}
 use Rattle.state.specs.State.{a-delay, a-predictor, accepted}
-use Rattle.decoder.specs.Frame.{subframe, voice, conceal, parameters}
+use Rattle.parameters.specs.Parameters.{subframe, voice, conceal, parameters}
 use Rattle.agreement.specs.Demand.{a-fraction, InRange}
 
 first-good : (old : ℤ) (p1 : ℕ) (ok : Bool) → T (a-delay old) → InRange (first old p1 ok .delay)

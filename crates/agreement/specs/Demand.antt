@@ -16,7 +16,7 @@ use Rattle.adaptive.specs.declared.Delay.{Delay}
 use Rattle.adaptive.specs.Adaptive.{parity-ok}
 use Rattle.plc.specs.Kinds.{decide}
 use Rattle.state.specs.State.{Signal, read, read-signal, a-delay, accepted-state}
-use Rattle.decoder.specs.declared.Decoded.{Decoded}
+use Rattle.parameters.specs.declared.Decoded.{Decoded}
 use Rattle.decoder.specs.Frame.{decode}
 use Rattle.decoder.specs.Call.{Answer, answer, frame}
 

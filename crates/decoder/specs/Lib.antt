@@ -1,4 +1,4 @@
--- The frame and the frame call, which the contracts of `decoder` cite.
+-- The frame and the frame call, which the contracts of `decoder` cite, and laws of both.
 pub mod Frame
 pub mod Call
-pub mod Parts
+pub mod Laws

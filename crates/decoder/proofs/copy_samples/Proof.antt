@@ -8,7 +8,7 @@ use denote.Ref.{now}
 use mir.Syntax.{w16}
 use Rattle.laws.specs.Lists.{at, filled, filled-none, fill}
 use Rattle.laws.specs.Back.{via}
-use Rattle.decoder.specs.Parts.{filled-from}
+use Rattle.decoder.specs.Laws.{filled-from}
 use Rattle.decoder.proofs.copy_samples.Statement.{statement}
 use Rattle.decoder.proofs.copy_samples.Tie as tie
 

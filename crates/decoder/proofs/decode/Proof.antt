@@ -1,6 +1,6 @@
 -- `decoder::decode` meets its contract: what the calls give, one after the other, is the frame.
 use denote.Ref.{now}
-use Rattle.decoder.specs.Parts.{samples-are, block-is}
+use Rattle.decoder.specs.Laws.{samples-are, block-is}
 use borrow.Author.Needs.{needs}
 use Rattle.decoder.proofs.decode.Statement.{statement}
 use Rattle.decoder.proofs.decode.Tie as tie

@@ -1,7 +1,7 @@
 -- `decoder::frame` meets its contract: a refusal by its number, else the frame, of which both parts are written.
 use mathlib.Core.Path.{_∙_}
 use denote.Ref.{now}
-use Rattle.decoder.specs.Parts.{refused, accepted, done}
+use Rattle.decoder.specs.Laws.{refused, accepted, done}
 use borrow.Author.Needs.{needs}
 use Rattle.decoder.proofs.frame.Statement.{statement}
 use Rattle.decoder.proofs.frame.Tie as tie

@@ -1,0 +1,98 @@
+-- Laws of a frame's signal and of the frame call, from what the calls inside them give.
+use Prim.Native.Nat.{ℕ, _+_, _<_}
+use mathlib.Core.Path.{_≡_, refl, sym, ap, _∙_}
+use mathlib.Core.Bool.{Bool, true, false, cond}
+use mathlib.Core.List.{List, _++_}
+use native.Mathlib.Omega.{arith}
+use borrow.Author.Tests.{eqb-true, eqb-false, eq-eqb, ne-eqb}
+use lib.Dec.{eqb, ltb}
+use lib.IntN.{ℤ, pos}
+use lib.ListN.{length, drop, replicate, length-drop}
+use lib.Seq.{take-all}
+use Rattle.laws.specs.Lists.{at, filled, filled-end, tab-part}
+use Rattle.tables.specs.Layout.{table-check}
+use Rattle.plc.specs.declared.Decision.{Decision}
+use Rattle.plc.specs.Kinds.{payload-length, decide}
+use Rattle.state.specs.State.{part, read-params, read-signal, read, write-params, write, state-check}
+use Rattle.state.specs.declared.Params.{Params}
+use Rattle.state.specs.Laws.{accepted-of-check, accepted-parts}
+use Rattle.parameters.specs.declared.Decoded.{Decoded}
+use Rattle.parameters.specs.Parameters.{parameters}
+use Rattle.decoder.specs.Frame.{Buffers, buffers, subframe-signal, frame-buffers, frame-signal, decode}
+use Rattle.decoder.specs.Call.{input-check, refusal, answer, frame}
+
+-- ---- signal
+
+-- the block and the samples of a frame from what the calls give: the parameters p before it and v of it, the buffers e₀ and s₀ as they
+-- are opened, and e and s as the two subframes leave them
+module _ (t : List ℤ) (d : Decision) (b : List ℤ) {p : Params} {v : Decoded} {e₀ s₀ e s : List ℤ} (hp : p ≡ read-params b) (hv : v ≡ parameters t d p)
+    (he : e₀ ≡ part b 70 154 ++ replicate 80 (pos 0)) (hs : s₀ ≡ part b 224 10 ++ replicate 80 (pos 0))
+    (h : buffers e s ≡ subframe-signal t true (v .second) (subframe-signal t false (v .first) (buffers e₀ s₀))) where
+  parameters-are : v ≡ parameters t d (read-params b)
+  parameters-are = rw hp at hv
+
+  signal-is : buffers e s ≡ frame-signal t (parameters t d (read-params b) .first) (parameters t d (read-params b) .second) (read-signal b)
+  unfolding frame-signal frame-buffers read-signal
+  signal-is = rw (he, hs, parameters-are) at h
+
+  pub samples-are : drop 10 s ≡ decode t d (read b) .samples
+  unfolding decode read
+  samples-are = ap (λ (x : Buffers). drop 10 (x .speech)) signal-is
+
+  pub block-is : {block : List ℤ} → block ≡ write-params (v .params) ++ (drop 80 e ++ drop 80 s) → block ≡ write (decode t d (read b) .state)
+  unfolding decode read write
+  block-is q =
+      q ∙ (λ i. write-params (parameters-are i .params) ++ (drop 80 (signal-is i .exc) ++ drop 80 (signal-is i .speech)))
+
+-- a loop has copied what stands from place p on
+pub filled-from : (src l out : List ℤ) (p n m : ℕ) → out ≡ filled (λ k. at src (p + k)) n l → n ≡ m → length l ≡ m → length src ≡ p + m → out ≡ drop p src
+filled-from src l out p n m e h hl hs =
+    filled-end _ n m l out e h hl ∙ tab-part src p m (omega arith) ∙ take-all m (drop p src) (simp length-drop (omega arith))
+
+-- ---- the call
+
+-- what a number that is 0 says of the tests that it was picked by
+when : (x : Bool) (m n : ℕ) → 0 < n → cond x m n ≡ 0 → (x ≡ true) × (m ≡ 0)
+when true m n h q = (refl, q)
+when false m n h q = absurd (omega arith)
+
+unless : (x : Bool) (m n : ℕ) → 0 < n → cond x n m ≡ 0 → m ≡ 0
+unless true m n h q = absurd (omega arith)
+unless false m n h q = q
+
+both : (k m : ℕ) → cond (eqb k 0) m k ≡ 0 → (k ≡ 0) × (m ≡ 0)
+both k m q = go (eqb k 0) refl q
+  where
+    go : (x : Bool) → eqb k 0 ≡ x → cond x m k ≡ 0 → (k ≡ 0) × (m ≡ 0)
+    go true e g = (eqb-true k 0 e, g)
+    go false e g = absurd (eqb-false k 0 e g)
+
+room-is : (kind : ℕ) (payload : List ℕ) (room : ℕ) → input-check kind payload room ≡ 0 → room ≡ 80
+unfolding input-check
+room-is kind payload room q =
+    let p = unless (ltb 3 kind) (cond (eqb (length payload) (payload-length kind)) (cond (eqb room 80) 0 7) 6) 5 (omega arith) q in
+    let r = when (eqb (length payload) (payload-length kind)) (cond (eqb room 80) 0 7) 6 (omega arith) p .1 in
+    eqb-true room 80 (when (eqb room 80) 0 7 (omega arith) r .0)
+
+pub checked : (t b : List ℤ) (kind : ℕ) (payload : List ℕ) (room : ℕ) → refusal t b kind payload room ≡ 0 → (state-check b ≡ 0) × (input-check kind payload room ≡ 0)
+unfolding refusal
+checked t b kind payload room q =
+    let n = input-check kind payload room in
+    both (state-check b) n (both (table-check t) (cond (eqb (state-check b) 0) n (state-check b)) q .1)
+
+-- what the number of a call says
+module _ (t b : List ℤ) (kind : ℕ) (payload : List ℕ) (out : List ℤ) {n : ℕ} (h : n ≡ refusal t b kind payload (length out)) where
+  pub refused : (n ≡ 0 → ⊥) → answer n b out ≡ frame t b kind payload out
+  unfolding frame
+  refused q = rw (← h, ne-eqb n 0 q)
+
+  -- a frame that is not refused has a whole state block and room for its samples
+  pub accepted : n ≡ 0 → (length b ≡ 234) × (length out ≡ 80)
+  accepted e =
+      let c = checked t b kind payload (length out) (sym h ∙ e) in
+      (accepted-parts b (accepted-of-check b (c .0)) .0, room-is kind payload (length out) (c .1))
+
+  pub done : n ≡ 0 → {d : Decision} {block samples b′ : List ℤ} → d ≡ decide kind payload → block ≡ write (decode t d (read b) .state)
+      → samples ≡ decode t d (read b) .samples → b′ ≡ cond (eqb (length b) 234) block b → answer 0 b′ samples ≡ frame t b kind payload out
+  unfolding frame
+  done e q hb hs eb = rw (← h, eq-eqb n 0 e, eb, eq-eqb (length b) 234 (accepted e .0), hb, hs, q)
