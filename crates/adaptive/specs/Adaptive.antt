@@ -55,20 +55,20 @@ abbrev pub carried : ℤ → Delay
 carried old = record { integer = old; fraction = pos 0 }
 
 -- the lesser of the carried delay plus 1 and 143
-unfoldable pub grown : ℤ → PitchState
-grown old = record { old = lesser (old +ℤ pos 1) (pos 143) }
+unfoldable pub increased : ℤ → PitchState
+increased old = record { old = lesser (old +ℤ pos 1) (pos 143) }
 
 -- Clause 4.1.2: subframe 1 of a received frame; after a parity error the carried delay.
 unfoldable pub first : ℤ → ℕ → Bool → Tracked
 first old p1 ok = track (cond ok (decode-t1 p1) (carried old))
 
--- Subframe 2 of a received frame.
+-- Clause 4.1.3: subframe 2 of a received frame.
 unfoldable pub second : ℕ → ℤ → Tracked
 second p2 t1 = track (decode-t2 p2 t1)
 
 -- Clause 4.4.4: a subframe of an erased frame uses the carried delay, which then grows by one, to 143 at most (so 144 falls to 143).
 unfoldable pub erased : ℤ → Tracked
-erased old = record { delay = carried old; state = grown old }
+erased old = record { delay = carried old; state = increased old }
 
 -- ---- equation (40), at the delay T = t0 + frac / 3 = k - phase / 3
 

@@ -29,8 +29,8 @@ unfoldable pub dot : List ℤ → List ℤ → ℕ → ℕ → ℤ
 dot c u p n = steps (λ j s. s +ℤ at u (p + j) *ℤ at c j) n (pos 0)
 
 -- at least the sum of the first n taps without their signs
-unfoldable pub weight : List ℤ → ℕ → ℕ
-weight c n = steps (λ j s. s + (mag (at c j) + 1)) n 0
+unfoldable pub size-sum : List ℤ → ℕ → ℕ
+size-sum c n = steps (λ j s. s + (mag (at c j) + 1)) n 0
 
 -- the n words from p on lie from -m to m - 1
 abbrev pub Small : List ℤ → ℕ → ℕ → ℕ → Type 0
@@ -48,10 +48,10 @@ Padded c o = ((j : ℕ) → j < o → at c j ≡ pos 0) × ((j : ℕ) → o + 20
 abbrev pub Room : ℕ → ℕ → ℕ → Type 0
 Room o from k = (o ≤ 12) × ((22 ≤ k + o) × ((k + o + 9 ≤ from) × (from + 40 ≤ 234)))
 
--- taps of a weight at which no sum of small words saturates, and places within the buffer
-abbrev pub Steady : List ℤ → ℕ → ℕ → ℕ → Type 0
-Steady c o from k = (weight c 32 ≤ 65534) × (Padded c o × Room o from k)
+-- taps of a size at which no sum of small words saturates, and places within the buffer
+abbrev pub NoSaturation : List ℤ → ℕ → ℕ → ℕ → Type 0
+NoSaturation c o from k = (size-sum c 32 ≤ 65534) × (Padded c o × Room o from k)
 
 -- what takes the first m words written from p on to the first n
-abbrev pub Goes : (ℕ → List ℤ → ℤ) → ℕ → ℕ → ℕ → List ℤ → List ℤ → Type 0
-Goes f p m n e x = (l : List ℤ) → e ≡ run f p m l → x ≡ run f p n l
+abbrev pub Continues : (ℕ → List ℤ → ℤ) → ℕ → ℕ → ℕ → List ℤ → List ℤ → Type 0
+Continues f p m n e x = (l : List ℤ) → e ≡ run f p m l → x ≡ run f p n l

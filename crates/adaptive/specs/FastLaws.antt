@@ -1,4 +1,4 @@
--- Laws of equation (40) without saturation: words within a limit, taps among zeros, sums of products by the weight of the taps, and that the
+-- Laws of equation (40) without saturation: words within a limit, taps among zeros, sums of products by the sizes of the taps, and that the
 -- shifted sum is what `interpolate` gives. Assumes nothing.
 use Prim.Native.Nat.{ℕ, zero, suc, _+_, _-_, _*_, _^_, _≤_, _<_, zero-le}
 use mathlib.Core.Path.{_≡_, refl, sym, ap, _∙_}
@@ -23,7 +23,7 @@ use Rattle.laws.specs.Range.{abs-mul, mag-abs}
 use Rattle.basic_op.specs.Ops.{l-mac, round}
 use Rattle.basic_op.specs.Laws.{mac-twice, round-twice}
 use Rattle.adaptive.specs.Adaptive.{interpolate}
-use Rattle.adaptive.specs.Fast.{tap, taps, filtered, dot, weight, Small, Sums, Padded}
+use Rattle.adaptive.specs.Fast.{tap, taps, filtered, dot, size-sum, Small, Sums, Padded}
 
 -- ---- words within a limit
 
@@ -76,19 +76,19 @@ sum-part w m zero = zero-le
 sum-part w m (suc n) = rw add-suc (omega (arith, sum-part w m n))
 
 -- twenty taps from o on among zeros; the first of them weighs the word at p
-module _ (c u : List ℤ) (p o : ℕ) (few : o ≤ 12) (room : o ≤ p) (light : weight c 32 ≤ 65534) (padded : Padded c o) (small : Small u p 20 16384) where
+module _ (c u : List ℤ) (p o : ℕ) (few : o ≤ 12) (room : o ≤ p) (bounded : size-sum c 32 ≤ 65534) (padded : Padded c o) (small : Small u p 20 16384) where
   product : ℕ → ℤ
   product j = at u (p - o + j) *ℤ at c j
 
-  heavy : ℕ → ℕ
-  heavy j = mag (at c j) + 1
+  size : ℕ → ℕ
+  size j = mag (at c j) + 1
 
   -- of the twenty
   term : ℕ → ℤ
   term j = at u (p + j) *ℤ at c (o + j)
 
-  bound : (j : ℕ) → natAbs (product j) ≤ 16384 * heavy j
-  unfolding product heavy
+  bound : (j : ℕ) → natAbs (product j) ≤ 16384 * size j
+  unfolding product size
   bound j = by (ltb j o) refl (ltb j (o + 20)) refl
     where
       by : (a : Bool) → ltb j o ≡ a → (b : Bool) → ltb j (o + 20) ≡ b → natAbs (at u (p - o + j) *ℤ at c j) ≤ 16384 * (mag (at c j) + 1)
@@ -100,8 +100,8 @@ module _ (c u : List ℤ) (p o : ℕ) (few : o ≤ 12) (room : o ≤ p) (light :
       by false e false g = abs-none (at u (p - o + j)) (at c j) (padded .1 j (ltb-false j (o + 20) g))
 
   dot-bound : (n k : ℕ) → k + n ≡ 32 → natAbs (dot c u (p - o) n) ≤ 1073709056
-  unfolding dot weight product heavy
-  dot-bound n k e = omega (arith, abs-sum product heavy 16384 n (λ j l. bound j), rw e at (sum-grows heavy n k))
+  unfolding dot size-sum product size
+  dot-bound n k e = omega (arith, abs-sum product size 16384 n (λ j l. bound j), rw e at (sum-grows size n k))
 
   pub sums-fit : Sums c u (p - o)
   sums-fit n h = omega (arith, mag-abs (dot c u (p - o) n), dot-bound n (32 - n) (omega arith))
@@ -130,51 +130,51 @@ module _ (c u : List ℤ) (p o : ℕ) (few : o ≤ 12) (room : o ≤ p) (light :
       place : (j : ℕ) → p - o + (o + j) ≡ p + j
       place j = omega arith
 
-  -- and 1 each to the weight, which is at least that of the twenty
-  weight-padded : steps (λ j s. s + heavy (o + j)) 20 0 ≤ weight c 32
-  unfolding weight heavy
-  weight-padded =
+  -- and 1 each to the sum of the sizes, which is at least that of the twenty
+  size-sum-padded : steps (λ j s. s + size (o + j)) 20 0 ≤ size-sum c 32
+  unfolding size-sum size
+  size-sum-padded =
       let e : 12 - o + (o + 20) ≡ 32 = omega arith in
-      omega (arith, sum-part heavy o 20, rw e at (sum-grows heavy (o + 20) (12 - o)))
+      omega (arith, sum-part size o 20, rw e at (sum-grows size (o + 20) (12 - o)))
 
-  term-bound : (j : ℕ) → j < 20 → natAbs (term j) ≤ 16384 * heavy (o + j)
-  unfolding term heavy
+  term-bound : (j : ℕ) → j < 20 → natAbs (term j) ≤ 16384 * size (o + j)
+  unfolding term size
   term-bound j h = abs-term (at u (p + j)) (at c (o + j)) (small j h)
 
   pairs : ℕ → ℤ
   pairs n = steps (λ i s. s +ℤ term (9 - i) +ℤ term (10 + i)) n (pos 0)
 
-  heavies : ℕ → ℕ
-  heavies n = steps (λ i s. s + heavy (o + (9 - i)) + heavy (o + (10 + i))) n 0
+  sizes : ℕ → ℕ
+  sizes n = steps (λ i s. s + size (o + (9 - i)) + size (o + (10 + i))) n 0
 
   macs : ℕ → ℤ
   macs n = steps (λ i s. l-mac (l-mac s (at u (p + (9 - i))) (at c (o + (9 - i)))) (at u (p + (10 + i))) (at c (o + (10 + i)))) n (pos 0)
 
-  pairs-bound : (n : ℕ) → n ≤ 10 → natAbs (pairs n) ≤ 16384 * heavies n
-  unfolding pairs heavies steps
+  pairs-bound : (n : ℕ) → n ≤ 10 → natAbs (pairs n) ≤ 16384 * sizes n
+  unfolding pairs sizes steps
   pairs-bound zero h = zero-le
   pairs-bound (suc n) h =
       omega (arith, abs-add (pairs n +ℤ term (9 - n)) (term (10 + n)), abs-add (pairs n) (term (9 - n)), pairs-bound n (omega arith), term-bound (9 - n) (omega arith), term-bound (10 + n) (omega arith))
 
-  macs-twice : (n : ℕ) → n ≤ 10 → heavies n ≤ 65534 → macs n ≡ pairs n +ℤ pairs n
-  unfolding pairs heavies macs steps term
+  macs-twice : (n : ℕ) → n ≤ 10 → sizes n ≤ 65534 → macs n ≡ pairs n +ℤ pairs n
+  unfolding pairs sizes macs steps term
   macs-twice zero h l = refl
   macs-twice (suc n) h l =
-      let b : natAbs (pairs n) ≤ 16384 * heavies n = pairs-bound n (omega arith) in
-      let y : natAbs (term (9 - n)) ≤ 16384 * heavy (o + (9 - n)) = term-bound (9 - n) (omega arith) in
-      let z : natAbs (term (10 + n)) ≤ 16384 * heavy (o + (10 + n)) = term-bound (10 + n) (omega arith) in
+      let b : natAbs (pairs n) ≤ 16384 * sizes n = pairs-bound n (omega arith) in
+      let y : natAbs (term (9 - n)) ≤ 16384 * size (o + (9 - n)) = term-bound (9 - n) (omega arith) in
+      let z : natAbs (term (10 + n)) ≤ 16384 * size (o + (10 + n)) = term-bound (10 + n) (omega arith) in
       rw (
         macs-twice n (omega arith) (omega arith),
-        mac-twice (pairs n) (at u (p + (9 - n))) (at c (o + (9 - n))) (16384 * heavies n) (16384 * heavy (o + (9 - n))) b y (omega arith),
+        mac-twice (pairs n) (at u (p + (9 - n))) (at c (o + (9 - n))) (16384 * sizes n) (16384 * size (o + (9 - n))) b y (omega arith),
       )
-      (mac-twice (pairs n +ℤ term (9 - n)) (at u (p + (10 + n))) (at c (o + (10 + n))) (16384 * (heavies n + heavy (o + (9 - n)))) (16384 * heavy (o + (10 + n))) (omega (arith, abs-add (pairs n) (term (9 - n)))) z (omega arith))
+      (mac-twice (pairs n +ℤ term (9 - n)) (at u (p + (10 + n))) (at c (o + (10 + n))) (16384 * (sizes n + size (o + (9 - n)))) (16384 * size (o + (10 + n))) (omega (arith, abs-add (pairs n) (term (9 - n)))) z (omega arith))
 
   in-order : macs 10 ≡ dot c u (p - o) 32 +ℤ dot c u (p - o) 32
-  unfolding pairs heavies
+  unfolding pairs sizes
   in-order =
       let e : dot c u (p - o) 32 ≡ pairs 10 = dot-padded ∙ outward _+ℤ_ (pos 0) +ℤ-assoc +ℤ-comm term 9 in
-      let f : steps (λ j s. s + heavy (o + j)) 20 0 ≡ heavies 10 = outward _+_ 0 add-assoc add-comm (λ j. heavy (o + j)) 9 in
-      rw e (macs-twice 10 (omega arith) (omega (arith, weight-padded)))
+      let f : steps (λ j s. s + size (o + j)) 20 0 ≡ sizes 10 = outward _+_ 0 add-assoc add-comm (λ j. size (o + j)) 9 in
+      rw e (macs-twice 10 (omega arith) (omega (arith, size-sum-padded)))
 
   places : filtered c o (p + 9) u ≡ round (macs 10)
   unfolding filtered macs

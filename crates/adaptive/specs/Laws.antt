@@ -17,7 +17,7 @@ use Rattle.adaptive.specs.declared.Delay.{Delay}
 use Rattle.adaptive.specs.declared.PitchState.{PitchState}
 use Rattle.adaptive.specs.declared.Tracked.{Tracked}
 use Rattle.basic_op.specs.Ops.{lesser}
-use Rattle.adaptive.specs.Adaptive.{decode-t1, decode-t2, t-min, carried, limited, nat, grown, first, second, erased, phase, lag, interpolate, adaptive-vector}
+use Rattle.adaptive.specs.Adaptive.{decode-t1, decode-t2, t-min, carried, limited, nat, increased, first, second, erased, phase, lag, interpolate, adaptive-vector}
 
 -- ---- a test of every number below n, computed
 
@@ -104,16 +104,16 @@ fits-more (pos n) p f = let h : n < 143 = ltb-true n 143 p in record { sfits = o
 fits-more (negsuc zero) p f = sfits-lit tt
 fits-more (negsuc (suc n)) p f = rw (lt-ltb 1 (suc (suc n)) (omega arith)) (record { sfits = omega (arith, f .sfits) })
 
-pub grown-more : (z : ℤ) → ltZ z (pos 143) ≡ true → z +ℤ pos 1 ≡ lesser (z +ℤ pos 1) (pos 143)
+pub increased-more : (z : ℤ) → ltZ z (pos 143) ≡ true → z +ℤ pos 1 ≡ lesser (z +ℤ pos 1) (pos 143)
 unfolding lesser
-grown-more (pos n) p = let h : n < 143 = ltb-true n 143 p in rw (le-ltb 143 (n + 1) (omega arith))
-grown-more (negsuc zero) p = refl
-grown-more (negsuc (suc n)) p = rw (lt-ltb 1 (suc (suc n)) (omega arith))
+increased-more (pos n) p = let h : n < 143 = ltb-true n 143 p in rw (le-ltb 143 (n + 1) (omega arith))
+increased-more (negsuc zero) p = refl
+increased-more (negsuc (suc n)) p = rw (lt-ltb 1 (suc (suc n)) (omega arith))
 
-pub grown-most : (z : ℤ) → ltZ z (pos 143) ≡ false → pos 143 ≡ lesser (z +ℤ pos 1) (pos 143)
+pub increased-most : (z : ℤ) → ltZ z (pos 143) ≡ false → pos 143 ≡ lesser (z +ℤ pos 1) (pos 143)
 unfolding lesser
-grown-most (pos n) p = let h : 143 ≤ n = ltb-false n 143 p in rw (lt-ltb 143 (n + 1) (omega arith))
-grown-most (negsuc n) p = let h : _≡_ {A = Bool} true false = p in absurd (subst T h tt)
+increased-most (pos n) p = let h : 143 ≤ n = ltb-false n 143 p in rw (lt-ltb 143 (n + 1) (omega arith))
+increased-most (negsuc n) p = let h : _≡_ {A = Bool} true false = p in absurd (subst T h tt)
 
 -- ---- a remainder less 1
 
@@ -190,13 +190,13 @@ t2-fraction-range p2 t1 =
 
 -- the carried delay stays in its range
 
-grown-by : (n : ℕ) (t : Bool) → ltb 143 (n + 1) ≡ t → 19 ≤ n → T (between (pos 19) (pos 143) (cond t (pos 143) (pos (n + 1))))
-grown-by n true e h = tt
-grown-by n false e h = between-pos 19 143 (n + 1) (omega arith) (omega (arith, ltb-false 143 (n + 1) e))
+increased-by : (n : ℕ) (t : Bool) → ltb 143 (n + 1) ≡ t → 19 ≤ n → T (between (pos 19) (pos 143) (cond t (pos 143) (pos (n + 1))))
+increased-by n true e h = tt
+increased-by n false e h = between-pos 19 143 (n + 1) (omega arith) (omega (arith, ltb-false 143 (n + 1) e))
 
 pub erased-range : (old : ℤ) → T (leZ (pos 19) old) → T (between (pos 19) (pos 143) (erased old .state .old))
-unfolding erased grown lesser
-erased-range (pos n) h = grown-by n (ltb 143 (n + 1)) refl (leb-yes h)
+unfolding erased increased lesser
+erased-range (pos n) h = increased-by n (ltb 143 (n + 1)) refl (leb-yes h)
 erased-range (negsuc n) h = absurd h
 
 wider : (z : ℤ) → T (between (pos 19) (pos 143) z) → T (between (pos 19) (pos 144) z)

@@ -7,7 +7,7 @@ use Rattle.adaptive.specs.declared.Delay.{Delay}
 use Rattle.adaptive.specs.declared.PitchState.{PitchState}
 use Rattle.adaptive.specs.declared.Tracked.{Tracked}
 use Rattle.basic_op.specs.Ops.{lesser}
-use Rattle.adaptive.specs.Adaptive.{nat, parity-ok, decode-t1, decode-t2, grown, erased}
+use Rattle.adaptive.specs.Adaptive.{nat, parity-ok, decode-t1, decode-t2, increased, erased}
 
 pub p1-0 : decode-t1 0 ≡ record { integer = pos 19; fraction = pos 1 }
 unfolding decode-t1
@@ -43,7 +43,7 @@ p2-31-144 = refl
 
 -- an erased subframe with 144 uses 144 and carries 143
 pub erased-144 : erased (pos 144) ≡ record { delay = record { integer = pos 144; fraction = pos 0 }; state = record { old = pos 143 } }
-unfolding erased grown lesser
+unfolding erased increased lesser
 erased-144 = refl
 
 -- P1 = 0 with P0 = 1 passes

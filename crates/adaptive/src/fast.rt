@@ -6,7 +6,7 @@ ghost use Prim.Native.Nat.{_+_, _-_, _≤_, _<_};
 ghost use lib.IntN.{_*ℤ_};
 ghost use lib.Signed.{mag};
 ghost use Rattle.laws.specs.Loops.{run};
-ghost use Rattle.adaptive.specs.Fast.{tap, taps, weight, dot, filtered, Small, Sums, Padded, Room, Steady, Goes};
+ghost use Rattle.adaptive.specs.Fast.{tap, taps, size-sum, dot, filtered, Small, Sums, Padded, Room, NoSaturation, Continues};
 
 // How many of the zeros stand in front of the taps, so that all 32 words read lie within the buffer.
 pub(crate) fn offset(k: usize) -> usize
@@ -49,8 +49,8 @@ fn magnitude(x: i16) -> u16
 }
 
 // At least the sum of the taps without their signs.
-fn weight(c: &[i16; 32]) -> u32
-    ensures { λ r. ⌜ r ≡ weight (now (c .entry)) 32 ⌝ }
+fn size_sum(c: &[i16; 32]) -> u32
+    ensures { λ r. ⌜ r ≡ size-sum (now (c .entry)) 32 ⌝ }
 {
     let mut s = 0u32;
     let mut j = 0;
@@ -98,7 +98,7 @@ fn dot(c: &[i16; 32], exc: &[i16; 234], from: usize) -> i32
 
 // The word whose oldest term is at `from`, by the taps from `offset` on, rounded; beyond 16 bits it is not limited.
 fn word(c: &[i16; 32], exc: &[i16; 234], from: usize, offset: usize) -> i32
-    requires { ⌜ (offset ≤ 12) × ((offset ≤ from) × ((from + 32 ≤ 234 + offset) × ((weight (now c) 32 ≤ 65534) × (Padded (now c) offset × Small (now exc) from 20 16384)))) ⌝ }
+    requires { ⌜ (offset ≤ 12) × ((offset ≤ from) × ((from + 32 ≤ 234 + offset) × ((size-sum (now c) 32 ≤ 65534) × (Padded (now c) offset × Small (now exc) from 20 16384)))) ⌝ }
     ensures { λ r. ⌜ r ≡ filtered (now (c .entry)) offset (from + 9) (now (exc .entry)) ⌝ }
 {
     basic_op::sar32(dot(c, exc, from - offset) + 16384, 15)
@@ -114,8 +114,8 @@ fn words(
     start: usize,
     end: usize,
 ) -> usize
-    requires { ⌜ Steady (now c) offset from k × ((start ≤ end) × ((end ≤ 40) × Small (now exc) (from - k - 9) 59 16384)) ⌝ }
-    ensures { λ r. ⌜ (r ≤ end) × (Small (now (exc .exit)) (from - k - 9) 59 16384 × Goes (λ n e. filtered (now (c .entry)) offset (from + n - k) e) from start r (now (exc .entry)) (now (exc .exit))) ⌝ }
+    requires { ⌜ NoSaturation (now c) offset from k × ((start ≤ end) × ((end ≤ 40) × Small (now exc) (from - k - 9) 59 16384)) ⌝ }
+    ensures { λ r. ⌜ (r ≤ end) × (Small (now (exc .exit)) (from - k - 9) 59 16384 × Continues (λ n e. filtered (now (c .entry)) offset (from + n - k) e) from start r (now (exc .entry)) (now (exc .exit))) ⌝ }
 {
     let mut n = start;
     while n < end {
@@ -144,7 +144,7 @@ pub(crate) fn first_words(
     requires { ⌜ Padded (now c) offset × Room offset from k ⌝ }
     ensures { λ r. ⌜ (r ≤ 40) × (now (exc .exit) ≡ run (λ n e. filtered (now (c .entry)) offset (from + n - k) e) from r (now (exc .entry))) ⌝ }
 {
-    if weight(c) > 65534 {
+    if size_sum(c) > 65534 {
         return 0;
     }
     if greatest(exc, from - k - 9) > 16383 {

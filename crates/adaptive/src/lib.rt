@@ -3,9 +3,9 @@
 ghost use mathlib.Core.Path.{_≡_};
 ghost use Prim.Native.Nat.{_+_, _-_, _/_, _≤_, _<_};
 ghost use Rattle.laws.specs.Loops.{run};
-ghost use Rattle.adaptive.specs.Adaptive.{parity-ok, decode-t1, decode-t2, nat, t-min, track, carried, grown, first, second, erased, phase, limited, lag, interpolate, adaptive-vector};
+ghost use Rattle.adaptive.specs.Adaptive.{parity-ok, decode-t1, decode-t2, nat, t-min, track, carried, increased, first, second, erased, phase, limited, lag, interpolate, adaptive-vector};
 ghost use Rattle.adaptive.specs.Laws.{in-thirds};
-ghost use Rattle.adaptive.specs.Fast.{Goes};
+ghost use Rattle.adaptive.specs.Fast.{Continues};
 
 mod fast;
 
@@ -119,8 +119,8 @@ impl PitchState {
     }
 
     // The lesser of the carried delay plus 1 and 143.
-    fn grown(self) -> PitchState
-        ensures { λ r. ⌜ r ≡ grown (self .old) ⌝ }
+    fn increased(self) -> PitchState
+        ensures { λ r. ⌜ r ≡ increased (self .old) ⌝ }
     {
         if self.old < 143 {
             return PitchState { old: self.old + 1 };
@@ -138,7 +138,7 @@ impl PitchState {
         track(self.carried())
     }
 
-    // Subframe 2 of a received frame.
+    // Clause 4.1.3: subframe 2 of a received frame.
     pub fn second(self, p2: u16, t1: i16) -> Tracked
         ensures { λ r. ⌜ r ≡ second p2 t1 ⌝ }
     {
@@ -150,7 +150,7 @@ impl PitchState {
         ensures { λ r. ⌜ r ≡ erased (self .old) ⌝ }
     {
         let delay = self.carried();
-        let state = self.grown();
+        let state = self.increased();
         Tracked { delay, state }
     }
 }
@@ -219,7 +219,7 @@ fn interpolate(b30: &[i16; 31], exc: &[i16; 234], phase: usize, x: usize) -> i16
 // The words of a subframe from `done` on, each from those around k before it.
 fn rest(b30: &[i16; 31], exc: &mut [i16; 234], from: usize, k: usize, phase: usize, done: usize)
     requires { ⌜ (phase ≤ 2) × ((10 ≤ k) × ((k + 9 ≤ from) × ((from + 40 ≤ 234) × (done ≤ 40)))) ⌝ }
-    ensures { λ r. ⌜ Goes (λ n e. interpolate (now (b30 .entry)) phase (from + n - k) e) from done 40 (now (exc .entry)) (now (exc .exit)) ⌝ }
+    ensures { λ r. ⌜ Continues (λ n e. interpolate (now (b30 .entry)) phase (from + n - k) e) from done 40 (now (exc .entry)) (now (exc .exit)) ⌝ }
 {
     let mut n = done;
     while n < 40 {

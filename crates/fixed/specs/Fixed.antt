@@ -19,7 +19,7 @@ unfoldable pub random-index : ℤ → Drawn
 random-index seed =
     record { index = low16 (random seed) % 2 ^ 13; sign = low16 (random (random seed)) % 2 ^ 4; seed = random (random seed) }
 
--- clause 4.1.4, inverting equation (62) over the tracks of Table 7: the place of pulse k. Pulses 0 to 2 have three bits of the index each, pulse 3 the four above them,
+-- clause 4.1.4, inverting equation (62) over the tracks of Table 7: the position of pulse k. Pulses 0 to 2 have three bits of the index each, pulse 3 the four above them,
 -- of which the lowest picks one of its two tracks
 unfoldable pub position : ℕ → ℕ → ℕ
 position index zero = 5 * (index % 8)
@@ -36,9 +36,8 @@ pulse positive sign k = cond (eqb (sign / 2 ^ k % 2) 1) positive (negsuc 8191)
 unfoldable pub codevector : ℤ → ℕ → ℕ → List ℤ
 codevector positive index sign = steps (λ k code. set code (position index k) (pulse positive sign k)) 4 (replicate 40 (pos 0))
 
--- equation (48): each word from place t0 on gets beta times the word t0 before it, as that one is by then; beta is Q14, doubled with
--- saturation to Q15. Unchanged
--- where t0 is not in 1..39
+-- equation (48): each word from place t0 on gets beta times the word t0 before it, which may be sharpened already. beta is Q14, doubled with saturation
+-- to Q15. Unchanged where t0 is not in 1..39
 unfoldable pub sharpen : List ℤ → ℤ → ℤ → List ℤ
 sharpen code (negsuc n) beta = code
 sharpen code (pos zero) beta = code

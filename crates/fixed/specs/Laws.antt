@@ -46,12 +46,12 @@ pub codevector-is : {p q : ℤ} (index sign : ℕ) → q ≡ p → steps (λ k l
 unfolding codevector
 codevector-is index sign e = rw e
 
--- the word that `echo` writes at place t0 + k
-abbrev pub echo : ℕ → ℤ → ℕ → List ℤ → ℤ
-echo t0 b k c = add (at c (t0 + k)) (mult (at c k) b)
+-- the word that `add_delayed` writes at place t0 + k
+abbrev pub add-delayed : ℕ → ℤ → ℕ → List ℤ → ℤ
+add-delayed t0 b k c = add (at c (t0 + k)) (mult (at c k) b)
 
-pub echo-end : {b y : ℤ} (t0 n : ℕ) (code out : List ℤ) → y ≡ b → n ≡ 40 - t0 → out ≡ run (echo t0 y) t0 n code → out ≡ run (echo t0 b) t0 (40 - t0) code
-echo-end t0 n code out e h g = run-end (echo t0 _) t0 n (40 - t0) code out g h ∙ ap (λ (x : ℤ). run (echo t0 x) t0 (40 - t0) code) e
+pub add-delayed-end : {b y : ℤ} (t0 n : ℕ) (code out : List ℤ) → y ≡ b → n ≡ 40 - t0 → out ≡ run (add-delayed t0 y) t0 n code → out ≡ run (add-delayed t0 b) t0 (40 - t0) code
+add-delayed-end t0 n code out e h g = run-end (add-delayed t0 _) t0 n (40 - t0) code out g h ∙ ap (λ (x : ℤ). run (add-delayed t0 x) t0 (40 - t0) code) e
 
 -- ---- `sharpen`, by the code's tests on y, which is t0 read back
 
@@ -65,17 +65,17 @@ module _ (code : List ℤ) (beta : ℤ) {y t0 : ℤ} (e : y ≡ t0) where
       go (pos (suc n)) q = let h : suc n < 1 = ltb-true (suc n) 1 q in absurd (omega arith)
       go (negsuc n) q = refl
 
-  pub sharpen-is : ltZ y (pos 1) ≡ false → run (echo (natAbs y) (shl beta (pos 1))) (natAbs y) (40 - natAbs y) code ≡ sharpen code t0 beta
+  pub sharpen-is : ltZ y (pos 1) ≡ false → run (add-delayed (natAbs y) (shl beta (pos 1))) (natAbs y) (40 - natAbs y) code ≡ sharpen code t0 beta
   unfolding sharpen
   sharpen-is p = rw e (go t0 (rw e at p))
     where
-      go : (t : ℤ) → ltZ t (pos 1) ≡ false → run (echo (natAbs t) (shl beta (pos 1))) (natAbs t) (40 - natAbs t) code ≡ sharpen code t beta
+      go : (t : ℤ) → ltZ t (pos 1) ≡ false → run (add-delayed (natAbs t) (shl beta (pos 1))) (natAbs t) (40 - natAbs t) code ≡ sharpen code t beta
       go (pos zero) q = let h : _≡_ {A = Bool} true false = q in absurd (subst T h tt)
       go (pos (suc n)) q = refl
       go (negsuc n) q = let h : _≡_ {A = Bool} true false = q in absurd (subst T h tt)
 
   pub sharpen-far : ltZ y (pos 1) ≡ false → 39 < natAbs y → code ≡ sharpen code t0 beta
-  sharpen-far p h = run-end (echo (natAbs y) (shl beta (pos 1))) (natAbs y) 0 (40 - natAbs y) code code (run-none _ _ code) (omega arith) ∙ sharpen-is p
+  sharpen-far p h = run-end (add-delayed (natAbs y) (shl beta (pos 1))) (natAbs y) 0 (40 - natAbs y) code code (run-none _ _ code) (omega arith) ∙ sharpen-is p
 
 -- a number that is not below 1 is no negative one
 pub positive : (z : ℤ) → ltZ z (pos 1) ≡ false → T (nonNeg z)

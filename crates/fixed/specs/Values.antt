@@ -9,10 +9,10 @@ pub draws : (random (pos 21845) ≡ pos 3242) × (random (pos 3242) ≡ pos 2386
 unfolding random extract-l low16
 draws = (refl, refl)
 
--- index 3242 with signs 11: places 10, 26, 12, 18
-pub places : (position 3242 0 ≡ 10) × (position 3242 1 ≡ 26) × (position 3242 2 ≡ 12) × (position 3242 3 ≡ 18)
+-- index 3242 with signs 11: positions 10, 26, 12, 18
+pub positions : (position 3242 0 ≡ 10) × (position 3242 1 ≡ 26) × (position 3242 2 ≡ 12) × (position 3242 3 ≡ 18)
 unfolding position
-places = (refl, refl, refl, refl)
+positions = (refl, refl, refl, refl)
 
 -- all positive but the third
 pub signs : (p : ℤ) → (pulse p 11 0 ≡ p) × (pulse p 11 1 ≡ p) × (pulse p 11 2 ≡ negsuc 8191) × (pulse p 11 3 ≡ p)

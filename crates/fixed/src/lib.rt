@@ -1,4 +1,4 @@
-// The fixed codebook of G.729: the pulses of clause 3.8 and 4.1.4, pitch sharpening, and the random indices of an erased frame
+// The fixed codebook of G.729: the pulses of clauses 3.8 and 4.1.4, pitch sharpening, and the random indices of an erased frame
 // (clause 4.4.4). Each contract is an equation with a definition of specs/Fixed.antt.
 ghost use mathlib.Core.Path.{_≡_};
 ghost use Prim.Native.Nat.{_+_, _-_, _≤_, _<_};
@@ -39,7 +39,7 @@ pub fn random_index(seed: i16) -> Drawn
     }
 }
 
-// The place of pulse k (equation (62), Table 7).
+// The position of pulse k (equation (62), Table 7).
 fn position(index: u16, k: u32) -> usize
     ensures { λ r. ⌜ r ≡ position index k ⌝ }
 {
@@ -82,7 +82,7 @@ pub fn codevector(positive: i16, index: u16, sign: u16) -> [i16; 40]
 }
 
 // The words from place t0 on, each with b times the word t0 before it.
-fn echo(code: [i16; 40], t0: usize, b: i16) -> [i16; 40]
+fn add_delayed(code: [i16; 40], t0: usize, b: i16) -> [i16; 40]
     requires { ⌜ t0 ≤ 40 ⌝ }
     ensures { λ r. ⌜ r ≡ run (λ n c. add (at c (t0 + n)) (mult (at c n) b)) t0 (40 - t0) code ⌝ }
 {
@@ -107,5 +107,5 @@ pub fn sharpen(code: [i16; 40], t0: i16, beta: i16) -> [i16; 40]
     if lag > 39 {
         return code;
     }
-    echo(code, lag, shl(beta, 1))
+    add_delayed(code, lag, shl(beta, 1))
 }

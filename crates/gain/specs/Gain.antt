@@ -1,5 +1,5 @@
--- The gains of ITU-T G.729: prediction of the fixed-codebook gain (clause 3.9.1), decoding of both gains (clauses 3.9.2 and 4.1.5),
--- their attenuation in an erased frame (clauses 4.4.2 and 4.4.3), and the factor of pitch sharpening. `t` is the table block.
+-- The gains of ITU-T G.729: prediction of the fixed-codebook gain (clause 3.9.1), decoding of both gains (clauses 3.9.2, 3.9.3 and 4.1.5),
+-- their attenuation in an erased frame (clauses 4.4.2 and 4.4.3), and the factor of pitch sharpening (clause 3.8). `t` is the table block.
 -- The clauses leave the fixed-point steps open: the scalings, and the order of the operations, are the Rust's.
 use Prim.Native.Nat.{ℕ, _%_}
 use mathlib.Core.Bool.{cond}
@@ -50,8 +50,10 @@ predict t code mem =
     let x = split-high-low (log2-gain t code mem) in
     record { mantissa = extract-l (base2-power (pos 14) (x .lower)); exponent = sub (pos 14) (x .upper) }
 
--- ---- the two-stage codebook, equations (72) to (74). Only the 3 low bits of GA and the 4 of GB are read; so too
--- of the map's word (& 7 and & 15 in the Rust), where -1 gives 7 and 15
+-- ---- the two-stage codebook (clauses 3.9.2 and 3.9.3), equations (72) to (74)
+
+-- the row for a received index: the 3 low bits of GA, or the 4 of GB, pick a word of the map, of which again the 3 or 4 low bits are taken (`& 7`
+-- and `& 15` in the Rust), so that -1 gives 7 or 15
 
 unfoldable pub row-ga : List ℤ → ℕ → ℕ
 row-ga t ga = low16 (map-ga t (ga % 8)) % 8

@@ -1,5 +1,5 @@
-// The gains of G.729: prediction (clause 3.9.1), decoding (clauses 3.9.2 and 4.1.5), an erased frame's (clauses 4.4.2 and 4.4.3), and
-// the factor of pitch sharpening. Each contract is an equation with a definition of specs/Gain.antt; `t` is the table block.
+// The gains of G.729: prediction (clause 3.9.1), decoding (clauses 3.9.2, 3.9.3 and 4.1.5), an erased frame's (clauses 4.4.2 and 4.4.3), and
+// the factor of pitch sharpening (clause 3.8). Each contract is an equation with a definition of specs/Gain.antt; `t` is the table block.
 ghost use mathlib.Core.Path.{_≡_};
 ghost use Prim.Native.Nat.{_^_, _<_, _≤_};
 ghost use lib.IntN.{_*ℤ_};

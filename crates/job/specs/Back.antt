@@ -18,7 +18,7 @@ use Rattle.words.specs.Words.{bytes, number-bytes}
 use Rattle.words.specs.Laws.{length-bytes, words-back, length-number-bytes, number-back}
 use Rattle.job.specs.declared.Saved.{Saved}
 use Rattle.job.specs.Crc32.{crc32}
-use Rattle.job.specs.Job.{body, pack, block, place, sum-fits, counts-fit, check, answer, nowhere, read}
+use Rattle.job.specs.Job.{start, body, pack, block, place, sum-fits, counts-fit, check, answer, read}
 use Rattle.job.specs.Damage.{Bytes, crc32-lt, crc32-set, damaged}
 
 -- ---- a list of six parts
@@ -184,7 +184,7 @@ module _ (b : List ℤ) (p : Saved) (n : length b ≡ 234) (w : (k : ℕ) → ma
   pack-read lent e = rw (pack-check (p .tables), eq-eqb (p .tables) (p .tables) refl, eq-eqb _ _ e, pack-place, pack-block)
 
   -- other tables: 23
-  pub pack-other : (tables : ℕ) (lent : List ℤ) → p .tables ≢ tables → read (pack b p) tables lent ≡ answer 23 nowhere lent
+  pub pack-other : (tables : ℕ) (lent : List ℤ) → p .tables ≢ tables → read (pack b p) tables lent ≡ answer 23 (start 0) lent
   unfolding read
   pack-other tables lent h = rw (pack-check tables, ne-eqb _ _ h)
 

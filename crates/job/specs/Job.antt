@@ -62,10 +62,6 @@ check f tables =
 pub data Answer : Type 0 where
   answer : ℕ → Saved → List ℤ → Answer
 
--- beside a refusal
-unfoldable pub nowhere : Saved
-nowhere = start 0
-
--- a refusal leaves the block as it was
+-- a refusal leaves the block as it was; beside it stands the start
 unfoldable pub read : List ℕ → ℕ → List ℤ → Answer
-read f tables lent = cond (eqb (check f tables) 0) (answer 0 (place f) (block f)) (answer (check f tables) nowhere lent)
+read f tables lent = cond (eqb (check f tables) 0) (answer 0 (place f) (block f)) (answer (check f tables) (start 0) lent)

@@ -25,7 +25,7 @@ use Rattle.job.specs.Names.{new, aside, folder}
 use Rattle.job.specs.Names as Names
 use Rattle.job.specs.Part.{going, taken, part, no-number, digits, wanted, saved}
 use Rattle.job.specs.Part as Part
-use Rattle.job.specs.Job.{start, body, pack, block, place, sum-fits, counts-fit, check, answer, nowhere, read}
+use Rattle.job.specs.Job.{start, body, pack, block, place, sum-fits, counts-fit, check, answer, read}
 use Rattle.job.specs.Crc32.{bit, bits, byte, run, crc32}
 
 -- ---- the loops of the check sum
@@ -137,7 +137,7 @@ check-zero f tables e = by (eqb (length f) 492) refl
     by false h = let z : _≡_ {A = ℕ} 3 0 = rw h at e in absurd (omega arith)
 
 pub read-refused : (f : List ℕ) (tables : ℕ) (lent : List ℤ) (r : ℕ) (p : Saved) → r ≡ check f tables → (r ≡ 0 → ⊥) → p ≡ start 0 → answer r p lent ≡ read f tables lent
-unfolding read nowhere
+unfolding read
 read-refused f tables lent r p e h g = rw (← e, ne-eqb _ _ h, g)
 
 pub read-done : (f : List ℕ) (tables : ℕ) (lent z : List ℤ) (r : ℕ) (p : Saved) → r ≡ check f tables → r ≡ 0 → p ≡ place f → length lent ≡ 234 → z ≡ from-bytes (take 468 f) lent

@@ -31,7 +31,7 @@ use Rattle.state.specs.State.{state-check}
 use Rattle.words.specs.Words.{words}
 use Rattle.job.specs.declared.Saved.{Saved}
 use Rattle.job.specs.Crc32.{crc32}
-use Rattle.job.specs.Job.{start, pack, counts-fit, answer, nowhere, read}
+use Rattle.job.specs.Job.{start, pack, counts-fit, answer, read}
 use Rattle.job.specs.Damage.{Bytes, crc32-lt}
 use Rattle.job.specs.Back.{pack-read, pack-other}
 use Rattle.job.specs.Part.{going, taken, part}
@@ -149,7 +149,7 @@ module _ (file text all : List ℕ) (b : List ℤ) (p : Saved) (out : List ℕ) 
   pub good-file : state-check b ≡ 0 → read (pack b p) (crc32 file) lent ≡ answer 0 p b
   good-file e = ap (λ (s : ℕ). read (pack b p) s lent) (sym (good .of-tables)) ∙ pack-read b p n w c has-sum lent e
 
-  pub good-other : (other : List ℕ) → crc32 file ≢ crc32 other → read (pack b p) (crc32 other) lent ≡ answer 23 nowhere lent
+  pub good-other : (other : List ℕ) → crc32 file ≢ crc32 other → read (pack b p) (crc32 other) lent ≡ answer 23 (start 0) lent
   good-other other h = pack-other b p n w c has-sum (crc32 other) lent (λ e. h (sym (good .of-tables) ∙ e))
 
 same-job : (j : Job) → j .code ≡ 0 → j ≡ record { block = j .block; counts = j .counts; code = 0 }

@@ -18,7 +18,7 @@ use basic_op::sar32;
 use basic_op::sar64;
 use basic_op::sat32;
 
-// 2 q v as one product. Where v is above -2^31 + 2^16 no step of Mpy_32_16 saturates.
+// 2 q v as one product. For v from -2^31 + 2^16 up to 2^31 - 2^16 - 1 no step of Mpy_32_16 saturates.
 fn twice_product(v: i32, q: i16) -> i64
     requires { ⌜ mag v < 2147418112 ⌝ }
     ensures { λ r. ⌜ r ≡ multiply-32-by-16 v q *ℤ pos 2 ⌝ }

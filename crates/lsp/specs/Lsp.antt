@@ -1,5 +1,5 @@
 -- The line spectral frequencies of G.729: clause 3.2.4 (codebooks, spacing, moving-average prediction, stability), 3.2.5 (interpolation),
--- 3.2.6 (cosine conversion), 4.1.1 and 4.4.1 (erased frames). Frequencies are in radians, Q13, LSP
+-- 3.2.4 and 3.2.6 (cosine conversion), 4.1.1 and 4.4.1 (erased frames). Frequencies are in radians, Q13, LSP
 -- in Q15. A row is the quantizer output l^ of a frame; the memory is the last four rows of ten, the newest first.
 use mathlib.Core.Bool.{cond}
 use mathlib.Core.List.{List, [], _∷_}
@@ -19,7 +19,7 @@ use Rattle.tables.specs.declared.Scalar.the-variants.{LsfStabilityLowLimit, Lsf
 
 -- ---- clause 3.2.4: the codebooks
 
--- the row L1 of the first codebook plus rows of the second, L2 for words 0 to 4 and L3 for the others; each index keeps the bits of its field
+-- equation (19): the row L1 of the first codebook plus rows of the second, L2 for words 0 to 4 and L3 for the others; each index keeps the bits of its field
 unfoldable pub codebook-sum : List ℤ → ℕ → ℕ → ℕ → List ℤ
 codebook-sum t l1 l2 l3 =
     tab 10 (λ i. add (at (lsp-cb1 t (l1 % 128)) i) (at (cond (ltb i 5) (lsp-cb2 t (l2 % 32)) (lsp-cb2 t (l3 % 32))) i))
@@ -80,7 +80,7 @@ predictor-index p = cond (ltZ (pos 0) p) 1 0
 unfoldable pub erased-row : List ℤ → ℤ → List ℤ → List (List ℤ) → List ℤ
 erased-row t predictor omega past = invert-ma-prediction omega past (lsp-ma t (predictor-index predictor)) (lsp-ma-sum-inv t (predictor-index predictor))
 
--- ---- clause 3.2.6: from frequencies to cosines
+-- ---- clauses 3.2.4, equation (18), and 3.2.6: from frequencies to cosines
 
 -- the cosine of a frequency in units of π / 64, Q8: a point of the table, and its slope over the lower byte. The point is the upper byte of the
 -- word's 16 bits, 63 at most, so a negative frequency has point 63. The slope's product is rounded down.
@@ -89,7 +89,7 @@ cosine freq =
     let point = cond (ltb (low16 freq / 256) 63) (low16 freq / 256) 63 in
     add (at lsp-cosine point) (extract-l (l-shr (l-mult (at lsp-cosine-slope point) (pos (low16 freq % 256))) (pos 13)))
 
--- the scale, Q17, takes radians in Q13 to units of π / 64 in Q8
+-- the scale, 1/(2π) in Q17 or 64/π in Q10, takes radians in Q13 to units of π / 64 in Q8
 unfoldable pub lsf-to-lsp : ℤ → List ℤ → List ℤ
 lsf-to-lsp scale lsf = tab 10 (λ i. cosine (mult (at lsf i) scale))
 

@@ -31,7 +31,7 @@ pub enum Scalar {
     ErasurePitchGainLimit,
     // Erasure: fixed-codebook gain attenuation, Q15.
     ErasureFixedGainAttenuation,
-    // LSF to LSP: radians to table index scale, Q17.
+    // LSF to LSP: 1/(2 pi) in Q17, which is 64/pi table entries a radian in Q10.
     LsfToLspFrequencyScale,
     // LSF stability: lowest first LSF, Q13.
     LsfStabilityLowLimit,

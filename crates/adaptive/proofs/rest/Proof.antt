@@ -7,12 +7,12 @@ use mir.Syntax.{w16}
 use Rattle.laws.specs.Loops.{run-end, write}
 use Rattle.laws.specs.Back.{via}
 use Rattle.adaptive.specs.Adaptive.{interpolate}
-use Rattle.adaptive.specs.Fast.{Goes}
+use Rattle.adaptive.specs.Fast.{Continues}
 use Rattle.adaptive.proofs.rest.Statement.{statement}
 use Rattle.adaptive.proofs.rest.Tie as tie
 
 abbrev Inv-loop : tie.InvT-loop
-Inv-loop b30 exc₀ from k phase done n₀ exc n = (n ≤ 40) × Goes (λ j e. interpolate b30 phase (from + j - k) e) from done n exc₀ exc
+Inv-loop b30 exc₀ from k phase done n₀ exc n = (n ≤ 40) × Continues (λ j e. interpolate b30 phase (from + j - k) e) from done n exc₀ exc
 
 abbrev μ-loop : tie.MeasureT-loop
 μ-loop b30 exc₀ from k phase done n₀ exc n = 40 - n

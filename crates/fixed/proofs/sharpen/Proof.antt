@@ -26,7 +26,7 @@ returns-2 c = sharpen-far _ _ (toZ-ofZ (c .before .before .fits .t0)) (c .before
 returns-3 : tie.Need-returns-3
 returns-3 c =
     let s = c .before .before .before .before in
-    c .echo .ensures
+    c .add-delayed .ensures
     ∙ rw (came w16 (c .before .shl), c .before .shl .ensures, toZ-ofZ (s .fits .beta))
     (sharpen-is _ _ (toZ-ofZ (s .fits .t0)) (c .before .before .before .if1 .left))
 

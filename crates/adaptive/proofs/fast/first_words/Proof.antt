@@ -15,7 +15,7 @@ words-requires : tie.Need-words-requires
 words-requires c κs =
     let g = c .before .before in
     let w = g .before .before .before in
-    ((omega (arith, w .weight .ensures), w .before .pre), (search needs, (search needs, λ j h. omega (arith, g .greatest .ensures j h))))
+    ((omega (arith, w .size-sum .ensures), w .before .pre), (search needs, (search needs, λ j h. omega (arith, g .greatest .ensures j h))))
 
 returns-3 : tie.Need-returns-3
 returns-3 c = let w = c .before .words .ensures in (omega (arith, w .0), w .1 .1 _ (run-none _ _ _))
@@ -24,7 +24,7 @@ words-requires-2 : tie.Need-words-requires-2
 words-requires-2 c κs =
     let f = c .before .before in
     let w = f .before .before .before .before .before .before in
-    ((omega (arith, w .weight .ensures), w .before .pre), (search needs, (search needs, f .words .ensures .1 .0)))
+    ((omega (arith, w .size-sum .ensures), w .before .pre), (search needs, (search needs, f .words .ensures .1 .0)))
 
 returns-4 : tie.Need-returns-4
 returns-4 c =

@@ -11,13 +11,13 @@ use Rattle.laws.specs.Loops.{write}
 use Rattle.laws.specs.Range.{within}
 use Rattle.laws.specs.Back.{came}
 use Rattle.basic_op.specs.Laws.{fits-within}
-use Rattle.adaptive.specs.Fast.{filtered, Small, Goes}
+use Rattle.adaptive.specs.Fast.{filtered, Small, Continues}
 use Rattle.adaptive.specs.FastLaws.{small-part, small-set}
 use Rattle.adaptive.proofs.fast.words.Statement.{statement}
 use Rattle.adaptive.proofs.fast.words.Tie as tie
 
 abbrev Inv-loop : tie.InvT-loop
-Inv-loop c exc₀ from k offset start end n₀ exc n = (n ≤ end) × (Small exc (from - k - 9) 59 16384 × Goes (λ j e. filtered c offset (from + j - k) e) from start n exc₀ exc)
+Inv-loop c exc₀ from k offset start end n₀ exc n = (n ≤ end) × (Small exc (from - k - 9) 59 16384 × Continues (λ j e. filtered c offset (from + j - k) e) from start n exc₀ exc)
 
 abbrev μ-loop : tie.MeasureT-loop
 μ-loop c exc₀ from k offset start end n₀ exc n = end - n

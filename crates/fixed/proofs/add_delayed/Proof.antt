@@ -1,4 +1,4 @@
--- `fixed::echo` meets its contract: before turn n the first n words from t0 on are written. Assumes nothing.
+-- `fixed::add_delayed` meets its contract: before turn n the first n words from t0 on are written. Assumes nothing.
 use Prim.Native.Nat.{_+_, _-_, _≤_}
 use mathlib.Core.Path.{_≡_, _∙_}
 use native.Mathlib.Omega.{arith}
@@ -10,9 +10,9 @@ use Rattle.laws.specs.Lists.{at}
 use Rattle.laws.specs.Loops.{run, run-none, write}
 use Rattle.laws.specs.Back.{came, via}
 use Rattle.basic_op.specs.Ops.{add, mult}
-use Rattle.fixed.specs.Laws.{echo-end}
-use Rattle.fixed.proofs.echo.Statement.{statement}
-use Rattle.fixed.proofs.echo.Tie as tie
+use Rattle.fixed.specs.Laws.{add-delayed-end}
+use Rattle.fixed.proofs.add_delayed.Statement.{statement}
+use Rattle.fixed.proofs.add_delayed.Tie as tie
 
 abbrev Inv-loop : tie.InvT-loop
 Inv-loop t0 b out₀ n₀ count out n = (n ≤ 40 - t0) × ((count ≡ 40 - t0) × (out ≡ run (λ k c. add (at c (t0 + k)) (mult (at c k) (toZ w16 b))) t0 n out₀))
@@ -35,10 +35,10 @@ loop-again c =
     )
 
 returns : tie.Need-returns Inv-loop μ-loop
-returns c = echo-end _ (c .before .loop .n) _ _ (toZ-ofZ (c .before .before .fits .b)) (omega arith) (c .before .loop .inv .1 .1)
+returns c = add-delayed-end _ (c .before .loop .n) _ _ (toZ-ofZ (c .before .before .fits .b)) (omega arith) (c .before .loop .inv .1 .1)
 
-pub echo-spec : {M : Type 1} → statement M
-echo-spec =
+pub add-delayed-spec : {M : Type 1} → statement M
+add-delayed-spec =
     tie.close
     (tie.spec
     Inv-loop

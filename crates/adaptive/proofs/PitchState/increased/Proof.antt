@@ -1,11 +1,11 @@
--- `adaptive::PitchState::grown` meets its contract. Assumes nothing.
+-- `adaptive::PitchState::increased` meets its contract. Assumes nothing.
 use mir.Syntax.{w16}
 use mir.Val.{SFits}
 use mir.Facts.{toZ-ofZ}
-use Rattle.adaptive.specs.Adaptive.{grown}
-use Rattle.adaptive.specs.Laws.{fits-more, grown-more, grown-most}
-use Rattle.adaptive.proofs.PitchState.grown.Statement.{statement}
-use Rattle.adaptive.proofs.PitchState.grown.Tie as tie
+use Rattle.adaptive.specs.Adaptive.{increased}
+use Rattle.adaptive.specs.Laws.{fits-more, increased-more, increased-most}
+use Rattle.adaptive.proofs.PitchState.increased.Statement.{statement}
+use Rattle.adaptive.proofs.PitchState.increased.Tie as tie
 
 add-t3 : tie.Need-add-t3
 add-t3 c =
@@ -13,17 +13,17 @@ add-t3 c =
     rw (toZ-ofZ f) (fits-more _ (rw (toZ-ofZ f) at (c .before .before .if1 .taken)) f)
 
 returns : tie.Need-returns
-unfolding grown
+unfolding increased
 returns c =
     let f : SFits w16 (c .before .before .before .before .before .args .self .old) = record { sfits = c .struct-told2 .given .0 .1 } in
     let p = rw (toZ-ofZ f) at (c .before .before .if1 .taken) in
-    rw (toZ-ofZ f, toZ-ofZ (fits-more _ p f), ← grown-more _ p)
+    rw (toZ-ofZ f, toZ-ofZ (fits-more _ p f), ← increased-more _ p)
 
 returns-2 : tie.Need-returns-2
-unfolding grown
+unfolding increased
 returns-2 c =
     let f : SFits w16 (c .before .before .before .args .self .old) = record { sfits = c .before .struct-told .given .0 .1 } in
-    rw (← grown-most _ (rw (toZ-ofZ f) at (c .if1 .left)))
+    rw (← increased-most _ (rw (toZ-ofZ f) at (c .if1 .left)))
 
-pub grown-spec : {M : Type 1} → statement M
-grown-spec = tie.close (tie.spec add-t3 returns returns-2)
+pub increased-spec : {M : Type 1} → statement M
+increased-spec = tie.close (tie.spec add-t3 returns returns-2)
