@@ -105,6 +105,7 @@ pub record Small (p : Saved) : Type 0 where
   pub frames : p .counts .frames ≤ 360000
   pub lost : p .counts .lost ≤ p .counts .frames
   pub at : p .at ≤ 37 * p .counts .frames
+  pub least : 15 * p .counts .frames ≤ p .at
 
 pub small : (p : Saved) → counts-fit p ≡ true → Small p
 unfolding counts-fit
@@ -112,7 +113,7 @@ small p e =
     let f = both (leb (p .counts .lost) (p .counts .frames)) _ e in
     let g = both (leb (p .counts .frames) 360000) _ (f .1) in
     let h = both (leb (15 * p .counts .frames) (p .at)) (leb (p .at) (37 * p .counts .frames)) (g .1) in
-    record { frames = leb-true _ _ (g .0); lost = leb-true _ _ (f .0); at = leb-true _ _ (h .1) }
+    record { frames = leb-true _ _ (g .0); lost = leb-true _ _ (f .0); at = leb-true _ _ (h .1); least = leb-true _ _ (h .0) }
 
 -- ---- a packed job
 

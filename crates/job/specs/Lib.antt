@@ -6,4 +6,5 @@ pub mod Damage
 pub mod Part
 pub mod Names
 pub mod Back
+pub mod Fits
 pub mod Resume

@@ -2,26 +2,20 @@
 -- decoded and written at its place leaves it good, a state file hands it on to the same tables and to no others (`good-file`, `good-other`), and at the end of the text the last form
 -- completes the output. Assumes nothing.
 use mathlib.Core.Path.{_≡_, refl, sym, ap, _∙_}
-use mathlib.Core.Bool.{Bool, true, false, cond, _||_}
+use mathlib.Core.Bool.{Bool, true, false, cond}
 use mathlib.Core.Logic.{_≢_}
 use mathlib.Core.List.{List, [], _∷_, _++_, append-assoc, append-nil}
 use Prim.Native.Nat.{ℕ, _+_, _-_, _*_, _%_, _^_, _≤_, _<_, min}
 use native.Mathlib.Omega.{arith}
 use native.Mathlib.Nat.{mod-eq-of-lt}
 use borrow.Author.Tests.{eq-eqb, ne-eqb, eqb-true, eqb-false}
-use lib.Dec.{eqb, leb, ltb}
-use lib.IntN.{ℤ, pos}
+use lib.Dec.{eqb}
+use lib.IntN.{ℤ}
 use lib.Signed.{mag}
-use lib.ListN.{length, take, drop, replicate, length-append, length-take, length-drop, take-append-drop}
+use lib.ListN.{length, take, drop, length-append, length-take, length-drop, take-append-drop}
 use lib.Seq.{take-at, drop-append-le, drop-drop}
 use Rattle.count.specs.declared.Counts.{Counts}
-use Rattle.count.specs.declared.Counted.{Counted}
-use Rattle.count.specs.Count.{count}
-use Rattle.line.specs.Line as Line
-use Rattle.plc.specs.Kinds.{payload-length}
-use Rattle.decoder.specs.Call as Frame
-use Rattle.call.specs.Call.{Job, Step, stop, framed, counted, line-step, last-form, printed, fresh-job, file-check, output}
-use Rattle.call.specs.Call as Call
+use Rattle.call.specs.Call.{Job, Step, line-step, last-form, printed, fresh-job, file-check, output}
 use Rattle.call.specs.Chunk as Chunk
 use Rattle.call.specs.Laws.{sized}
 use Rattle.call.specs.Whole.{with-code, printed-ended, again, lines-made, overlong-made}
@@ -33,61 +27,10 @@ use Rattle.job.specs.declared.Saved.{Saved}
 use Rattle.job.specs.Crc32.{crc32}
 use Rattle.job.specs.Job.{start, pack, counts-fit, answer, read}
 use Rattle.job.specs.Damage.{Bytes, crc32-lt}
-use Rattle.job.specs.Back.{pack-read, pack-other}
+use Rattle.job.specs.Back.{Small, small, pack-read, pack-other}
+use Rattle.job.specs.Fits.{Fits, grown-line, part-unused, part-fits, fits-after}
 use Rattle.job.specs.Part.{going, taken, part}
 use Rattle.job.specs.Part as Part
-
--- ---- a line that is not refused is one frame more
-
--- the frames after a line
-record Grown (job : Job) (s : Step) : Type 0 where
-  more : s .job .code ≡ 0 → s .job .counts .frames ≡ job .counts .frames + 1
-  same : (s .job .code ≡ 0 → ⊥) → s .job .counts .frames ≡ job .counts .frames
-
-grown-stop : (job : Job) (n : ℕ) → (n ≡ 0 → ⊥) → Grown job (stop job n)
-unfolding stop
-grown-stop job n h = record { more = λ e. absurd (h e); same = λ e. refl }
-
--- Count's answer by its two tests
-abbrev tested : ℕ → Counts → Bool → Bool → Counted
-tested kind c p q =
-    cond p (record { code = 5; counts = c })
-    (cond q (record { code = 10; counts = c }) (record { code = 0; counts = record { frames = c .frames + 1; lost = cond (eqb kind 0) (c .lost) (c .lost + 1) } }))
-
-one-tested : (kind : ℕ) (c : Counts) (p q : Bool) → tested kind c p q .code ≡ 0 → tested kind c p q .counts .frames ≡ c .frames + 1
-one-tested kind c true q e = absurd (omega arith)
-one-tested kind c false true e = absurd (omega arith)
-one-tested kind c false false e = refl
-
-one-count : (kind : ℕ) (c : Counts) → count kind c .code ≡ 0 → count kind c .counts .frames ≡ c .frames + 1
-unfolding count
-one-count kind c = one-tested kind c (ltb 3 kind) (leb 360000 (c .frames) || leb 360000 (c .lost))
-
-grown-frame : (job : Job) (next : Counts) (a : Frame.Answer) → next .frames ≡ job .counts .frames + 1 → Grown job (framed job next a)
-unfolding framed
-grown-frame job next (Frame.answer code b samples) h = record { more = λ e. rw (eq-eqb code 0 e) h; same = λ e. rw (ne-eqb code 0 e) }
-
-grown-counted : (t : List ℤ) (job : Job) (kind : ℕ) (payload : List ℕ) → Grown job (counted t job kind payload (count kind (job .counts)))
-unfolding counted
-grown-counted t job kind payload = by (eqb (count kind (job .counts) .code) 0) refl
-  where
-    F : Frame.Answer
-    F = Frame.frame t (job .block) kind payload (replicate 80 (pos 0))
-
-    by : (p : Bool) → eqb (count kind (job .counts) .code) 0 ≡ p → Grown job (cond p (framed job (count kind (job .counts) .counts) F) (stop job (count kind (job .counts) .code)))
-    by true e = grown-frame job (count kind (job .counts) .counts) F (one-count kind (job .counts) (eqb-true _ _ e))
-    by false e = grown-stop job (count kind (job .counts) .code) (eqb-false _ _ e)
-
-grown-line : (t : List ℤ) (job : Job) (l : List ℕ) → Grown job (line-step t job l)
-unfolding line-step Call.taken
-grown-line t job l = by (Line.line l (replicate 10 0))
-  where
-    pick : (p : Bool) (n : ℕ) (s : Step) → eqb n 0 ≡ p → Grown job s → Grown job (cond p s (stop job n))
-    pick true n s e f = f
-    pick false n s e f = grown-stop job n (eqb-false _ _ e)
-
-    by : (a : Line.Answer) → Grown job (Call.taken t job a)
-    by (Line.answer code kind bytes) = pick (eqb code 0) code _ refl (grown-counted t job kind (take (payload-length kind) bytes))
 
 -- ---- the lines of a part: 327 bytes for each frame more
 
@@ -109,7 +52,7 @@ part-frames t job room held (b ∷ l) =
         omega (arith, grown-line t job held .more c, sized t job held .whole c)
     line false z =
         let n : length (s .text) ≡ 0 = ap length (sized t job held .silent (eqb-false _ _ z)) in
-        omega (arith, grown-line t job held .same (eqb-false _ _ z))
+        omega (arith, ap (λ (c : Counts). c .frames) (grown-line t job held .same (eqb-false _ _ z)))
 
     by : (p q : Bool) → Frames (s .job) (Chunk.part t (s .job) (room - length (s .text)) [] l) → Frames job (Chunk.part t job room (held ++ (b ∷ [])) l)
         → Frames job (cond p (cond q (Chunk.behind (s .text) (Chunk.part t (s .job) (room - length (s .text)) [] l)) (Chunk.part t job room (held ++ (b ∷ [])) l)) (Chunk.none job (held ++ (b ∷ l))))
@@ -124,33 +67,34 @@ unfoldable pub put-at : ℕ → List ℕ → List ℕ → List ℕ
 put-at o v out = take o out ++ (v ++ drop (o + length v) out)
 
 -- the forms of the frames that are done stand in the output, and with what the rest of the text prints from this state they are all that is to be printed; the tables are those
--- of this table file, and the job has its CRC-32
+-- of this table file, and the job has its CRC-32; and a job file can hold its counts
 pub record Good (file text all : List ℕ) (b : List ℤ) (p : Saved) (out : List ℕ) : Type 0 where
   pub of-tables : p .tables ≡ crc32 file
+  pub fits : counts-fit p ≡ true
   pub reach : 327 * p .counts .frames ≤ length out
   pub made : all ≡ take (327 * p .counts .frames) out ++ printed (words file) (going b p) [] (drop (p .at) text)
 
 -- a new job, whatever stands in the output: all that is to be printed is what `decode` prints
 pub good-fresh : (file text out : List ℕ) → file-check file ≡ 0 → Good file text (output file text) (fresh-job (words file) .block) (start (crc32 file)) out
-unfolding going fresh-job start output
-good-fresh file text out h = record { of-tables = refl; reach = omega arith; made = rw (eq-eqb _ _ h) }
+unfolding going fresh-job start output counts-fit
+good-fresh file text out h = record { of-tables = refl; fits = refl; reach = omega arith; made = rw (eq-eqb _ _ h) }
 
 -- whatever is written behind the place, as by a program that was stopped before it saved its next state
 pub good-behind : (file text all : List ℕ) (b : List ℤ) (p : Saved) (out out′ : List ℕ) → Good file text all b p out → 327 * p .counts .frames ≤ length out′
     → take (327 * p .counts .frames) out′ ≡ take (327 * p .counts .frames) out → Good file text all b p out′
-good-behind file text all b p out out′ good h e = record { of-tables = good .of-tables; reach = h; made = good .made ∙ rw e }
+good-behind file text all b p out out′ good h e = record { of-tables = good .of-tables; fits = good .fits; reach = h; made = good .made ∙ rw e }
 
 -- a job that goes through a state file: with the same tables it is the job that was saved, with tables of another CRC-32 it is refused
 module _ (file text all : List ℕ) (b : List ℤ) (p : Saved) (out : List ℕ) (good : Good file text all b p out)
-    (a : Bytes file) (n : length b ≡ 234) (w : (k : ℕ) → mag (at b k) < 32768) (c : counts-fit p ≡ true) (lent : List ℤ) where
+    (a : Bytes file) (n : length b ≡ 234) (w : (k : ℕ) → mag (at b k) < 32768) (lent : List ℤ) where
   has-sum : p .tables < 2 ^ 32
   has-sum = rw (good .of-tables) (crc32-lt file a)
 
   pub good-file : state-check b ≡ 0 → read (pack b p) (crc32 file) lent ≡ answer 0 p b
-  good-file e = ap (λ (s : ℕ). read (pack b p) s lent) (sym (good .of-tables)) ∙ pack-read b p n w c has-sum lent e
+  good-file e = ap (λ (s : ℕ). read (pack b p) s lent) (sym (good .of-tables)) ∙ pack-read b p n w (good .fits) has-sum lent e
 
   pub good-other : (other : List ℕ) → crc32 file ≢ crc32 other → read (pack b p) (crc32 other) lent ≡ answer 23 (start 0) lent
-  good-other other h = pack-other b p n w c has-sum (crc32 other) lent (λ e. h (sym (good .of-tables) ∙ e))
+  good-other other h = pack-other b p n w (good .fits) has-sum (crc32 other) lent (λ e. h (sym (good .of-tables) ∙ e))
 
 same-job : (j : Job) → j .code ≡ 0 → j ≡ record { block = j .block; counts = j .counts; code = 0 }
 same-job j e = λ i. record { block = j .block; counts = j .counts; code = e i }
@@ -193,6 +137,10 @@ module _ (file text all : List ℕ) (b : List ℤ) (p : Saved) (out : List ℕ) 
   unfolding Chunk.lines Chunk.given used
   lines-is = rw mid-length
 
+  used-all : used + length (Q .unused) ≡ length input
+  unfolding used
+  used-all = omega (arith, part-unused t (going b p) (min (327 * most) (length forms)) [] input)
+
   -- what is printed of the text from the place on
   from-here : printed t (going b p) [] (drop (p .at) text) ≡ Q .text ++ printed t (Q .job) [] (drop (p .at + used) text)
   unfolding over used
@@ -207,9 +155,13 @@ module _ (file text all : List ℕ) (b : List ℤ) (p : Saved) (out : List ℕ) 
   unfolding going
   after c =
       let o : ℕ = 327 * p .counts .frames in
+      let s : Small p = small p (good .fits) in
+      let f : Fits (going b p) (0 + length input) Q = part-fits t (going b p) (min (327 * most) (length forms)) [] input (s .frames) c in
+      let u : used + length (Q .unused) ≡ length input = used-all in
       let k : 327 * Q .job .counts .frames ≡ o + length (Q .text) = part-frames t (going b p) (min (327 * most) (length forms)) [] input in
       record {
         of-tables = good .of-tables;
+        fits = fits-after p Q (going b p) used (0 + length input) (p .tables) s refl f (omega arith);
         reach = rw k (put-reach o (Q .text) out (good .reach));
         made =
             good .made
