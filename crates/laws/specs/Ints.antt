@@ -1,4 +1,4 @@
--- Sums and products of ℤ rearranged, and what a right shift takes out of a sum. Assumes nothing.
+-- Sums, differences and products of ℤ rearranged, and what a right shift takes out of a sum. Assumes nothing.
 use Prim.Native.Nat.{ℕ, zero, suc, _-_, _/_, _≤_, _<_}
 use mathlib.Core.Path.{_≡_, refl, sym, ap, _∙_}
 use mathlib.Core.Bool.{Bool, true, false, cond}
@@ -6,7 +6,7 @@ use native.Mathlib.Omega.{arith}
 use native.Mathlib.Numerals.{add-one}
 use native.Mathlib.Nat.{div-eq-of-lt, div-eq-sub-div, add-div-right}
 use lib.Dec.{ltb}
-use lib.IntN.{ℤ, pos, negsuc, negℤ, sucℤ, predℤ, _+ℤ_, _-ℤ_, _*ℤ_, pred-suc, +ℤ-sucℤ, +ℤ-predℤ, +ℤ-idl, +ℤ-idr, +ℤ-assoc, +ℤ-comm, +ℤ-invr, +ℤ-invl, -ℤ-+ℤ-cancel, sucℤ-*ℤ, predℤ-*ℤ, zero-*ℤ, *ℤ-comm}
+use lib.IntN.{ℤ, pos, negsuc, negℤ, sucℤ, predℤ, _+ℤ_, _-ℤ_, _*ℤ_, pred-suc, negℤ-+ℤ, +ℤ-sucℤ, +ℤ-predℤ, +ℤ-idl, +ℤ-idr, +ℤ-assoc, +ℤ-comm, +ℤ-invr, +ℤ-invl, -ℤ-+ℤ-cancel, sucℤ-*ℤ, predℤ-*ℤ, zero-*ℤ, *ℤ-comm}
 use lib.Signed.{shrZ}
 use borrow.Author.Tests.{ltb-true, ltb-false}
 
@@ -22,6 +22,11 @@ module _ (P : ℤ → Type 0) (none : P (pos 0)) (up : (k : ℤ) → P k → P (
 
 pub add-swap : (a b c : ℤ) → a +ℤ b +ℤ c ≡ a +ℤ c +ℤ b
 add-swap a b c = +ℤ-assoc a b c ∙ ap (λ (x : ℤ). a +ℤ x) (+ℤ-comm b c) ∙ sym (+ℤ-assoc a c b)
+
+pub sub-sums : (a b c d : ℤ) → a +ℤ b -ℤ (c +ℤ d) ≡ a -ℤ c +ℤ (b -ℤ d)
+sub-sums a b c d =
+    ap (λ (z : ℤ). a +ℤ b +ℤ z) (negℤ-+ℤ c d) ∙ sym (+ℤ-assoc (a +ℤ b) (negℤ c) (negℤ d)) ∙ ap (λ (z : ℤ). z +ℤ negℤ d) (add-swap a b (negℤ c))
+    ∙ +ℤ-assoc (a -ℤ c) b (negℤ d)
 
 pub mul-add : (x y q : ℤ) → (x +ℤ y) *ℤ q ≡ x *ℤ q +ℤ y *ℤ q
 mul-add x y q = by-steps (λ (y : ℤ). (x +ℤ y) *ℤ q ≡ x *ℤ q +ℤ y *ℤ q) none up down y
@@ -45,6 +50,9 @@ neg-mul y q = sym (+ℤ-idl (negℤ y *ℤ q)) ∙ ap (λ (z : ℤ). z +ℤ neg�
     ∙ ap (λ (z : ℤ). negℤ (y *ℤ q) +ℤ z) (sym (mul-add y (negℤ y) q) ∙ ap (λ (z : ℤ). z *ℤ q) (+ℤ-invr y) ∙ zero-*ℤ q)
     ∙ +ℤ-idr (negℤ (y *ℤ q))
 
+pub sub-mul : (x y q : ℤ) → (x -ℤ y) *ℤ q ≡ x *ℤ q -ℤ y *ℤ q
+sub-mul x y q = mul-add x (negℤ y) q ∙ ap (λ (z : ℤ). x *ℤ q +ℤ z) (neg-mul y q)
+
 pub mul-assoc : (a b c : ℤ) → (a *ℤ b) *ℤ c ≡ a *ℤ (b *ℤ c)
 mul-assoc a b c = by-steps (λ (a : ℤ). (a *ℤ b) *ℤ c ≡ a *ℤ (b *ℤ c)) none up down a
   where
@@ -63,6 +71,20 @@ mul-assoc a b c = by-steps (λ (a : ℤ). (a *ℤ b) *ℤ c ≡ a *ℤ (b *ℤ c
 
 pub mul-swap : (a b c : ℤ) → a *ℤ b *ℤ c ≡ a *ℤ c *ℤ b
 mul-swap a b c = mul-assoc a b c ∙ ap (λ (x : ℤ). a *ℤ x) (*ℤ-comm b c) ∙ sym (mul-assoc a c b)
+
+-- ---- doubles
+
+pub double-add : (a b : ℤ) → pos 2 *ℤ (a +ℤ b) ≡ pos 2 *ℤ a +ℤ pos 2 *ℤ b
+double-add a b =
+    *ℤ-comm (pos 2) (a +ℤ b) ∙ mul-add a b (pos 2) ∙ ap (λ (z : ℤ). z +ℤ b *ℤ pos 2) (*ℤ-comm a (pos 2)) ∙ ap (λ (z : ℤ). pos 2 *ℤ a +ℤ z) (*ℤ-comm b (pos 2))
+
+pub double-sub : (a b : ℤ) → pos 2 *ℤ (a -ℤ b) ≡ pos 2 *ℤ a -ℤ pos 2 *ℤ b
+double-sub a b = *ℤ-comm (pos 2) (a -ℤ b) ∙ sub-mul a b (pos 2) ∙ rw (*ℤ-comm a (pos 2), *ℤ-comm b (pos 2))
+
+-- ---- a negative number, by the size of what it negates
+
+pub neg-is : (k j : ℕ) → k ≡ suc j → negℤ (pos k) ≡ negsuc j
+neg-is k j e = rw e
 
 -- ---- a right shift: what is a multiple of m comes out of it
 

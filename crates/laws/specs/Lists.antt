@@ -1,6 +1,6 @@
 -- Lists given by their words, and loops that fill a list from the front. Assumes nothing.
 use mathlib.Core.Path.{_≡_, refl, ap, sym, _∙_}
-use mathlib.Core.List.{List, [], _∷_, _++_, append-nil}
+use mathlib.Core.List.{List, [], _∷_, _++_, map, map-append, append-nil}
 use Prim.Native.Nat.{ℕ, zero, suc, _+_, _≤_, _<_}
 use native.Mathlib.Numerals.{add-one}
 use native.Mathlib.Omega.{arith}
@@ -95,6 +95,23 @@ filled-whole src l n m out g h e k = filled-end (at src) n m l out g h k ∙ tab
 -- the second half of a list written after the first
 pub halves : (a r b : List ℤ) (m n : ℕ) → length a ≡ m → length r ≡ n → take m (a ++ r) ++ (b ++ drop n (drop m (a ++ r))) ≡ a ++ b
 halves a r b m n h k = rw (take-at a r m h, drop-at a r m h, drop-of-length-le r {i = n} (omega arith), append-nil)
+
+-- ---- a list whose words are changed one by one, each to g of it
+
+-- the word that a turn reads is still the one of before
+pub filled-next : (f : ℕ → ℤ) (n : ℕ) (l out : List ℤ) → n < length l → out ≡ filled f n l → at out n ≡ at l n
+unfolding filled
+filled-next f n l out h e = rw (e, drop-cons l n (pos 0) h) (getD-at (tab n f) (at l n) (drop (suc n) l) (pos 0) n (length-tab n f))
+
+map-tab : (g : ℤ → ℤ) (n : ℕ) (f : ℕ → ℤ) → tab n (λ k. g (f k)) ≡ map g (tab n f)
+unfolding tab
+map-tab g zero f = refl
+map-tab g (suc n) f = rw (map-tab g n f, map-append)
+
+-- the last turn is behind
+pub filled-map : (g : ℤ → ℤ) (l : List ℤ) (n : ℕ) (out : List ℤ) → out ≡ filled (λ k. g (at l k)) n l → n ≡ length l → out ≡ map g l
+filled-map g l n out e h =
+    filled-end (λ k. g (at l k)) n (length l) l out e h refl ∙ map-tab g (length l) (at l) ∙ ap (map g) (tab-at l (length l) (omega arith) ∙ take-all (length l) l (omega arith))
 
 -- ---- a list that is built from the front, a part at a time
 

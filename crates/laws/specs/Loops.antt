@@ -1,16 +1,17 @@
 -- Counted loops: a step for each number below n, and words written in order. Assumes nothing.
 use mathlib.Core.Path.{_≡_, refl, ap, sym, _∙_}
+use mathlib.Core.Logic.{⊎-elim}
 use mathlib.Core.Bool.{Bool, true, false, cond}
 use mathlib.Core.List.{List, [], _∷_, _++_, append-assoc, append-nil}
 use Prim.Native.Nat.{ℕ, zero, suc, _+_, _≤_, _<_}
 use native.Mathlib.Numerals.{add-one}
-use native.Mathlib.Nat.{add-zero, add-suc}
+use native.Mathlib.Nat.{add-zero, add-suc, eq-or-lt-of-le}
 use native.Mathlib.Omega.{arith}
 use lib.IntN.{ℤ, pos}
 use lib.Dec.{eqb}
 use borrow.Author.Tests.{eqb-true, eqb-false}
 use lib.ListN.{length, take, drop, set, length-set}
-use lib.Seq.{take-suc, take-suc-set, take-all}
+use lib.Seq.{take-suc, take-suc-set, take-all, set-comm, set-set}
 use Rattle.laws.specs.Lists.{at}
 
 -- ---- a step for each number below n, in order, on any state: a sum is such a loop
@@ -122,3 +123,31 @@ run-front l v p (suc n) h q =
 
 pub put-end : (l v out : List ℤ) (p n m : ℕ) → out ≡ run (λ k e. at v k) p n l → n ≡ m → length v ≡ m → p + m ≤ length l → take (p + m) out ≡ take p l ++ v
 put-end l v out p n m g h e b = rw (g, h, run-front l v p m b (omega arith), take-all m v (omega arith))
+
+-- ---- a causal run: the word written at p + n is made of those before it alone
+
+abbrev pub Causal : (ℕ → List ℤ → ℤ) → ℕ → Type 0
+Causal f p = (n j : ℕ) (l : List ℤ) (v : ℤ) → p + n ≤ j → f n (set l j v) ≡ f n l
+
+module _ (f : ℕ → List ℤ → ℤ) (p : ℕ) (causal : Causal f p) where
+  -- a word behind those that are written stays
+  run-behind : (n j : ℕ) (l : List ℤ) (v : ℤ) → p + n ≤ j → run f p n (set l j v) ≡ set (run f p n l) j v
+  unfolding run
+  run-behind zero j l v h = refl
+  run-behind (suc n) j l v h =
+      rw (run-behind n j l v (omega arith), causal n j (run f p n l) v (omega arith)) (set-comm (run f p n l) j (p + n) v (f n (run f p n l)) (λ e. omega arith))
+
+  -- a word that is written anew does not matter
+  run-over : (n j : ℕ) (l : List ℤ) (v : ℤ) → p ≤ j → j < p + n → run f p n (set l j v) ≡ run f p n l
+  unfolding run
+  run-over zero j l v h q = absurd (omega arith)
+  run-over (suc n) j l v h q = ⊎-elim last (λ e. rw (run-over n j l v h e)) (eq-or-lt-of-le {n = j} {m = p + n} (omega arith))
+    where
+      last : j ≡ p + n → run f p (suc n) (set l j v) ≡ run f p (suc n) l
+      last e = rw (e, run-behind n (p + n) l v (omega arith), causal n (p + n) (run f p n l) v (omega arith)) (set-set (run f p n l) (p + n) v (f n (run f p n l)))
+
+  -- the same words written first by another run do not matter
+  pub run-again : (g : ℕ → List ℤ → ℤ) (n k : ℕ) (l : List ℤ) → k ≤ n → run f p n (run g p k l) ≡ run f p n l
+  unfolding run
+  run-again g n zero l h = refl
+  run-again g n (suc k) l h = run-over n (p + k) (run g p k l) (g k (run g p k l)) (omega arith) (omega arith) ∙ run-again g n k l (omega arith)

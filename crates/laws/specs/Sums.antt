@@ -1,13 +1,16 @@
--- Sums: their order, and their size by the sizes of their terms. Assumes nothing.
+-- Sums and differences: their order, and their size by the sizes of their terms. Assumes nothing.
 use Prim.Native.Nat.{ℕ, zero, suc, _+_, _-_, _*_, _≤_, _<_, zero-le}
 use mathlib.Core.Path.{_≡_, refl, sym, ap, _∙_}
 use mathlib.Core.Bool.{Bool, true, false, cond}
+use mathlib.Core.Logic.{⊎-elim}
 use native.Mathlib.Omega.{arith}
-use native.Mathlib.Nat.{zero-add, suc-add, le-refl}
+use native.Mathlib.Nat.{zero-add, suc-add, le-refl, le-trans, le-of-eq, eq-or-lt-of-le}
 use lib.Dec.{ltb}
-use lib.IntN.{ℤ, pos, negsuc, natAbs, subℕ, _+ℤ_}
+use lib.IntN.{ℤ, pos, negsuc, negℤ, natAbs, subℕ, _+ℤ_, _-ℤ_, -ℤ-+ℤ-cancel}
 use borrow.Author.Tests.{ltb-true}
 use Rattle.laws.specs.Loops.{steps}
+use Rattle.laws.specs.Range.{abs-neg}
+use Rattle.laws.specs.Ints.{add-swap}
 
 -- ---- a sum from the middle outward is the sum in order
 
@@ -60,6 +63,12 @@ abs-add (pos a) (negsuc b) = abs-sub-by (ltb a (suc b)) a (suc b) refl
 abs-add (negsuc a) (pos b) = let h : natAbs (subℕ b (suc a)) ≤ b + suc a = abs-sub-by (ltb b (suc a)) b (suc a) refl in omega arith
 abs-add (negsuc a) (negsuc b) = omega arith
 
+pub abs-sub : (a b : ℤ) → natAbs (a -ℤ b) ≤ natAbs a + natAbs b
+abs-sub a b = omega (arith, abs-add a (negℤ b), abs-neg b)
+
+pub abs-back : (a b : ℤ) → natAbs a ≤ natAbs (a -ℤ b) + natAbs b
+abs-back a b = le-trans (le-of-eq (ap natAbs (sym (-ℤ-+ℤ-cancel a b)))) (abs-add (a -ℤ b) b)
+
 -- a sum whose terms are at most m times their weights
 pub abs-sum : (g : ℕ → ℤ) (w : ℕ → ℕ) (m n : ℕ) → ((j : ℕ) → j < n → natAbs (g j) ≤ m * w j) → natAbs (steps (λ j s. s +ℤ g j) n (pos 0)) ≤ m * steps (λ j s. s + w j) n 0
 unfolding steps
@@ -72,3 +81,42 @@ pub sum-grows : (w : ℕ → ℕ) (n k : ℕ) → steps (λ j s. s + w j) n 0 �
 unfolding steps
 sum-grows w n zero = rw zero-add (le-refl (steps (λ j s. s + w j) n 0))
 sum-grows w n (suc k) = rw suc-add (omega (arith, sum-grows w n k))
+
+-- ---- terms taken off one by one
+
+-- l without the first k terms
+abbrev pub less : (ℕ → ℤ) → ℕ → ℤ → ℤ
+less t k l = steps (λ i r. r -ℤ t i) k l
+
+-- the sizes of the first k terms together
+abbrev pub sizes : (ℕ → ℤ) → ℕ → ℕ
+sizes t k = steps (λ i r. r + natAbs (t i)) k 0
+
+module _ (t : ℕ → ℤ) where
+  -- a term may be taken off before the others
+  pub less-first : (k : ℕ) (l u : ℤ) → less t k (l -ℤ u) ≡ less t k l -ℤ u
+  unfolding steps
+  less-first zero l u = refl
+  less-first (suc k) l u = rw (less-first k l u) (add-swap (less t k l) (negℤ u) (negℤ (t k)))
+
+  -- the first term taken off behind the others
+  pub less-front : (k : ℕ) (l : ℤ) → less t (suc k) l ≡ less (λ i. t (suc i)) k l -ℤ t 0
+  unfolding steps
+  less-front zero l = refl
+  less-front (suc k) l = ap (λ (z : ℤ). z -ℤ t (suc k)) (less-front k l) ∙ add-swap (less (λ i. t (suc i)) k l) (negℤ (t 0)) (negℤ (t (suc k)))
+
+  module _ (l : ℤ) where
+    less-above : (k : ℕ) → natAbs (less t k l) ≤ natAbs l + sizes t k
+    unfolding steps
+    less-above zero = omega arith
+    less-above (suc k) = omega (arith, abs-sub (less t k l) (t k), less-above k)
+
+    less-below : (m k : ℕ) → k ≤ m → natAbs (less t k l) + sizes t k ≤ natAbs (less t m l) + sizes t m
+    unfolding steps
+    less-below zero zero h = omega arith
+    less-below zero (suc k) h = absurd (omega arith)
+    less-below (suc m) k h = ⊎-elim (λ e. rw e (le-refl _)) (λ q. omega (arith, less-below m k (omega arith), abs-back (less t m l) (t m))) (eq-or-lt-of-le h)
+
+    -- on the way from l to its end no value is larger than half of both and all terms together
+    pub less-between : (m k b : ℕ) → k ≤ m → natAbs l + sizes t m + natAbs (less t m l) ≤ b → 2 * natAbs (less t k l) ≤ b
+    less-between m k b h q = omega (arith, less-above k, less-below m k h)

@@ -66,7 +66,7 @@ fn excitation(f: &[i16], at: usize, second: bool, exc: &mut [i16; 234], tally: &
 // Whether the first synthesis saturates.
 fn saturated(a: [i16; 11], exc: [i16; 234], second: bool, speech: [i16; 90]) -> bool {
     let mut room = speech;
-    synth::synthesize(&a, &exc, second, &mut room)
+    synth_filter::synthesize(&a, &exc, second, &mut room)
 }
 
 // The excitation and the speech of a frame.
