@@ -1,15 +1,14 @@
--- A part of a call's text: whole lines are taken out of it, while what they print fits into the room lent for it. `whole` of Whole says that parts make up `printed` of the whole text.
+-- A part of a call's text: whole lines are taken out of it, while what they print fits into the room lent for it. `whole` of crate whole_call says that parts make up `printed` of the whole text.
 use mathlib.Core.Bool.{Bool, cond, _&&_}
 use mathlib.Core.List.{List, [], _∷_, _++_}
 use Prim.Native.Nat.{ℕ, suc, _-_}
 use lib.Dec.{eqb, leb, ltb}
 use lib.IntN.{ℤ}
 use lib.ListN.{length}
-use Rattle.count.specs.declared.Counted.{Counted}
 use Rattle.print.specs.Print.{over}
 use Rattle.state.specs.State as State
 use Rattle.words.specs.Words.{words}
-use Rattle.call.specs.Call.{Job, Step, line-step}
+use Rattle.line_step.specs.Step.{Job, Step, line-step}
 
 -- what the lines that were taken print, what is kept after them, and the bytes behind them
 pub record Part : Type 0 where
@@ -37,14 +36,6 @@ part t job room held (b ∷ text) =
     cond (goes-on job room)
     (cond (eqb b 10) (behind (s .text) (part t (s .job) (room - length (s .text)) [] text)) (part t job room (held ++ (b ∷ [])) text))
     (none job (held ++ (b ∷ text)))
-
--- what is kept, from the state block and the counts with their code
-unfoldable pub kept : List ℤ → Counted → Job
-kept b c = record { block = b; counts = c .counts; code = c .code }
-
--- the lent bytes after a line: what it prints, or as they were where it is refused
-unfoldable pub left : Step → List ℕ → List ℕ
-left s lent = cond (eqb (s .job .code) 0) (s .text) lent
 
 -- what `lines` answers and leaves: the state block, the counts with their code, the number of bytes used and written, and the lent output
 pub data Answer : Type 0 where

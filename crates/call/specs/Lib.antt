@@ -2,6 +2,3 @@
 pub mod Call
 pub mod Chunk
 pub mod Laws
-pub mod Whole
-pub mod Codes
-pub mod Ending

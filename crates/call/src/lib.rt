@@ -3,8 +3,9 @@ ghost use mathlib.Core.Path.{_≡_};
 ghost use Prim.Native.Nat.{_+_, _≤_, min};
 ghost use lib.ListN.{length, drop};
 ghost use lib.Seq.{paste, slice};
-ghost use Rattle.call.specs.Call.{line-step, line-number, last-form};
-ghost use Rattle.call.specs.Chunk.{kept, left, Answer, lines, to-feed, overlong, Begun, begin};
+ghost use Rattle.line_step.specs.Step.{kept};
+ghost use Rattle.call.specs.Call.{line-number, last-form};
+ghost use Rattle.call.specs.Chunk.{Answer, lines, to-feed, overlong, Begun, begin};
 ghost use Rattle.print.specs.Print.{over};
 use count::Counted;
 use count::Counts;
@@ -51,46 +52,6 @@ fn copy(text: &[u8; 327], out: &mut [u8], at: usize)
     }
 }
 
-// One line, without its line feed: the operations Line, Count and Frame, in this order. The first refusal is answered, with the counts as they were; else
-// 0 with the frame counted, and `(pcm H)` in `out`.
-pub fn line_step(
-    t: &[i16],
-    b: &mut [i16],
-    counts: Counts,
-    text: &[u8],
-    out: &mut [u8; 327],
-) -> Counted
-    ensures { λ r. ⌜ kept (now (b .exit)) r ≡ line-step (now (t .entry)) (kept (now (b .entry)) (record { code = 0; counts = counts })) (now (text .entry)) .job ⌝ }
-    ensures { λ r. ⌜ now (out .exit) ≡ left (line-step (now (t .entry)) (kept (now (b .entry)) (record { code = 0; counts = counts })) (now (text .entry))) (now (out .entry)) ⌝ }
-{
-    let mut payload = [0u8; 10];
-    let read = line::line(text, &mut payload);
-    if read.code != 0 {
-        return Counted {
-            code: read.code,
-            counts,
-        };
-    }
-    let next = count::count(read.kind, counts);
-    if next.code != 0 {
-        return Counted {
-            code: next.code,
-            counts,
-        };
-    }
-    let n = plc::payload_length(read.kind);
-    let mut samples = [0i16; 80];
-    let refusal = decoder::frame(t, b, read.kind, &payload[0..n], &mut samples);
-    if refusal != 0 {
-        return Counted {
-            code: refusal,
-            counts,
-        };
-    }
-    print::pcm(&samples, out);
-    next
-}
-
 // Takes whole lines out of `input` until there is no further line feed, `out` has no room for a frame's 327 bytes, or a line is refused. What they print
 // is at the front of `out`; the bytes behind it are as they were.
 pub fn lines(t: &[i16], b: &mut [i16], from: Counted, input: &[u8], out: &mut [u8]) -> Taken
@@ -114,7 +75,7 @@ pub fn lines(t: &[i16], b: &mut [i16], from: Counted, input: &[u8], out: &mut [u
             let job = Counted { code: 0, counts };
             return Taken { job, used, written };
         }
-        let step = line_step(t, b, counts, &input[used..end], &mut text);
+        let step = line_step::line_step(t, b, counts, &input[used..end], &mut text);
         used = end + 1;
         if step.code != 0 {
             return Taken {

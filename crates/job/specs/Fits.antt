@@ -16,10 +16,11 @@ use Rattle.line.specs.Line as Line
 use Rattle.line.specs.Laws.{form-length}
 use Rattle.plc.specs.Kinds.{payload-length}
 use Rattle.decoder.specs.Call as Frame
-use Rattle.call.specs.Call.{Job, Step, stop, framed, counted, line-step}
-use Rattle.call.specs.Call as Call
+use Rattle.line_step.specs.Step.{Job, Step, stop, framed, counted, line-step}
+use Rattle.line_step.specs.Step as LineStep
 use Rattle.call.specs.Chunk.{Part, none, behind, goes-on, part}
-use Rattle.call.specs.Laws.{not-line, part-stop}
+use Rattle.line_step.specs.Laws.{not-line}
+use Rattle.call.specs.Laws.{part-stop}
 use Rattle.job.specs.declared.Saved.{Saved}
 use Rattle.job.specs.Job.{counts-fit}
 use Rattle.job.specs.Back.{Small}
@@ -79,14 +80,14 @@ grown-counted t job kind payload = by (eqb (count kind (job .counts) .code) 0) r
     by false e = grown-stop job (count kind (job .counts) .code) (eqb-false _ _ e)
 
 pub grown-line : (t : List ℤ) (job : Job) (l : List ℕ) → Grown job (line-step t job l)
-unfolding line-step Call.taken
+unfolding line-step LineStep.taken
 grown-line t job l = by (Line.line l (replicate 10 0))
   where
     pick : (p : Bool) (n : ℕ) (s : Step) → eqb n 0 ≡ p → Grown job s → Grown job (cond p s (stop job n))
     pick true n s e f = f
     pick false n s e f = grown-stop job n (eqb-false _ _ e)
 
-    by : (a : Line.Answer) → Grown job (Call.taken t job a)
+    by : (a : Line.Answer) → Grown job (LineStep.taken t job a)
     by (Line.answer code kind bytes) = pick (eqb code 0) code _ refl (grown-counted t job kind (take (payload-length kind) bytes))
 
 -- ---- it has 14 to 36 bytes

@@ -15,7 +15,7 @@ use lib.Seq.{take-suc, take-length, take-all, drop-append-le, drop-cons, length-
 use Rattle.count.specs.declared.Counts.{Counts}
 use Rattle.count.specs.declared.Counted.{Counted}
 use Rattle.print.specs.Print.{over, total}
-use Rattle.call.specs.Call.{Job}
+use Rattle.line_step.specs.Step.{Job, kept}
 use Rattle.call.specs.Chunk as Chunk
 use Rattle.state.specs.State.{state-check}
 use Rattle.words.specs.Words.{bytes, from-bytes, to-bytes, number, number-bytes}
@@ -165,10 +165,10 @@ opened : (j j′ : Job) (u u′ w w′ : ℕ) (v v′ : List ℕ) → Chunk.answ
 opened j j′ u u′ w w′ v v′ e = (cc, (cc, (cc, cc)))
 
 pub part-is : (t b b′ : List ℤ) (p : Saved) (job : Counted) (most used written n at : ℕ) (input out v : List ℕ) → n ≡ min (327 * most) (length out)
-    → Chunk.answer (Chunk.kept b′ job) used written v ≡ Chunk.lines t (Chunk.kept b (record { code = 0; counts = p .counts })) input (take n out)
+    → Chunk.answer (kept b′ job) used written v ≡ Chunk.lines t (kept b (record { code = 0; counts = p .counts })) input (take n out)
     → length v ≡ n → at ≡ (p .at + used) % 2 ^ 64
-    → Part.answer (Chunk.kept b′ job) at written (most - written / 327) (v ++ drop n out) ≡ part t b p most input out
-unfolding part taken going Chunk.lines Chunk.given Chunk.kept
+    → Part.answer (kept b′ job) at written (most - written / 327) (v ++ drop n out) ≡ part t b p most input out
+unfolding part taken going Chunk.lines Chunk.given kept
 part-is t b b′ p job most used written n at input out v h e g i =
     let m : length (take n out) ≡ n = rw length-take (omega arith) in
     let o = opened _ _ _ _ _ _ _ _ (rw m at e) in

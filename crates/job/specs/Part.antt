@@ -6,7 +6,7 @@ use lib.Dec.{eqb, leb}
 use lib.IntN.{ℤ, pos}
 use lib.ListN.{length, drop}
 use Rattle.count.specs.declared.Counts.{Counts}
-use Rattle.call.specs.Call.{Job}
+use Rattle.line_step.specs.Step.{Job}
 use Rattle.call.specs.Chunk as Chunk
 use Rattle.print.specs.Print.{over, total}
 use Rattle.job.specs.declared.Saved.{Saved}

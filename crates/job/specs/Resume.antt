@@ -15,10 +15,11 @@ use lib.Signed.{mag}
 use lib.ListN.{length, take, drop, length-append, length-take, length-drop, take-append-drop}
 use lib.Seq.{take-at, drop-append-le, drop-drop}
 use Rattle.count.specs.declared.Counts.{Counts}
-use Rattle.call.specs.Call.{Job, Step, line-step, last-form, printed, fresh-job, file-check, output}
+use Rattle.line_step.specs.Step.{Job, Step, line-step}
+use Rattle.line_step.specs.Laws.{sized}
+use Rattle.call.specs.Call.{last-form, printed, fresh-job, file-check, output}
 use Rattle.call.specs.Chunk as Chunk
-use Rattle.call.specs.Laws.{sized}
-use Rattle.call.specs.Whole.{with-code, printed-ended, again, lines-made, overlong-made}
+use Rattle.whole_call.specs.Whole.{with-code, printed-ended, again, lines-made, overlong-made}
 use Rattle.print.specs.Print.{over}
 use Rattle.laws.specs.Lists.{at}
 use Rattle.state.specs.State.{state-check}

@@ -2,7 +2,7 @@
 ghost use mathlib.Core.Path.{_≡_};
 ghost use Prim.Native.Nat.{_+_, _-_, _*_, _≤_, min};
 ghost use lib.ListN.{length};
-ghost use Rattle.call.specs.Chunk.{kept};
+ghost use Rattle.line_step.specs.Step.{kept};
 ghost use Rattle.print.specs.Print.{over};
 ghost use Rattle.job.specs.Part.{position, offset, Answer, part, wanted, saved};
 use crate::Saved;

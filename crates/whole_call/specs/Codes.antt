@@ -16,8 +16,8 @@ use Rattle.line.specs.Line as Line
 use Rattle.line.specs.Laws.{length-bytes}
 use Rattle.count.specs.declared.Counts.{Counts}
 use Rattle.count.specs.Count.{count}
-use Rattle.call.specs.Call.{Job, stop, framed, counted, taken, line-step}
-use Rattle.call.specs.Laws.{payload-few}
+use Rattle.line_step.specs.Step.{Job, stop, framed, counted, taken, line-step}
+use Rattle.line_step.specs.Laws.{payload-few}
 
 -- the numbers that a line may give
 unfoldable pub of-line : ℕ → Bool

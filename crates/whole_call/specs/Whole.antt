@@ -18,9 +18,10 @@ use Rattle.print.specs.Print.{refused, over}
 use Rattle.state.specs.State as State
 use Rattle.tables.specs.Layout.{table-check}
 use Rattle.words.specs.Words.{words}
-use Rattle.call.specs.Call.{Job, Step, stop, line-step, line-number, last-form, printed, fresh-job, file-check, output}
-use Rattle.call.specs.Chunk.{Part, none, behind, goes-on, part, kept, answer, given, lines, to-feed, overlong, begun, with-state, begin}
-use Rattle.call.specs.Laws.{not-line}
+use Rattle.line_step.specs.Step.{Job, Step, stop, line-step, kept}
+use Rattle.line_step.specs.Laws.{not-line}
+use Rattle.call.specs.Call.{line-number, last-form, printed, fresh-job, file-check, output}
+use Rattle.call.specs.Chunk.{Part, none, behind, goes-on, part, answer, given, lines, to-feed, overlong, begun, with-state, begin}
 
 -- ---- what is done with a call, in any order, and what is then held
 

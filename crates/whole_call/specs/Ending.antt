@@ -20,9 +20,10 @@ use Rattle.print.specs.Print.{total, refused}
 use Rattle.tables.specs.Layout.{table-check, scalar}
 use Rattle.tables.specs.declared.Scalar.the-variants.{InitialPreviousPitchDelay}
 use Rattle.words.specs.Words.{words}
-use Rattle.call.specs.Call.{Job, Step, stop, framed, counted, taken, line-step, line-number, last-form, printed, fresh-job, file-check, output}
+use Rattle.line_step.specs.Step.{Job, Step, stop, framed, counted, taken, line-step}
+use Rattle.call.specs.Call.{line-number, last-form, printed, fresh-job, file-check, output}
 use Rattle.call.specs.Chunk.{to-feed}
-use Rattle.call.specs.Whole.{feedless-rest, feedless-more, no-feed, printed-ended}
+use Rattle.whole_call.specs.Whole.{feedless-rest, feedless-more, no-feed, printed-ended}
 
 -- the number of line feeds
 unfoldable pub feeds : List ℕ → ℕ

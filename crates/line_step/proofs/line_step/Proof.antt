@@ -1,12 +1,12 @@
--- `call::line_step` meets its contract: each way out is what the operations' answers make of the line.
+-- `line_step::line_step` meets its contract: each way out is what the operations' answers make of the line.
 use native.Mathlib.Omega.{arith}
 use mathlib.Core.Path.{refl}
 use denote.Ref.{now}
 use borrow.Author.Needs.{needs}
-use Rattle.call.specs.Chunk.{kept}
-use Rattle.call.specs.Laws.{payload-few, not-line, not-counted, is-framed, left-stop, left-refused, left-done}
-use Rattle.call.proofs.line_step.Statement.{statement}
-use Rattle.call.proofs.line_step.Tie as tie
+use Rattle.line_step.specs.Step.{kept}
+use Rattle.line_step.specs.Laws.{payload-few, not-line, not-counted, is-framed, left-stop, left-refused, left-done}
+use Rattle.line_step.proofs.line_step.Statement.{statement}
+use Rattle.line_step.proofs.line_step.Tie as tie
 
 returns : tie.Need-returns
 unfolding kept

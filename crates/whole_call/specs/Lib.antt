@@ -1,0 +1,4 @@
+-- Theorems on whole calls.
+pub mod Whole
+pub mod Codes
+pub mod Ending
