@@ -153,7 +153,7 @@ by-halves l a b ea eb h =
 pub copy : (l v : List ℕ) (n : ℕ) → n < length l → n < length v → take n l ≡ take n v → take (n + 1) (set l n (getD v n 0)) ≡ take (n + 1) v
 copy l v n h k e = rw (add-one, take-suc-set l n (getD v n 0) h, take-suc v n 0 k, e)
 
--- the last turn is behind
+-- after the last turn
 pub copied : (l v : List ℕ) (n m : ℕ) → take n l ≡ take n v → n ≡ m → length l ≡ m → length v ≡ m → l ≡ v
 copied l v n m e g h k = sym (take-all n l (omega arith)) ∙ e ∙ take-all n v (omega arith)
 

@@ -62,7 +62,7 @@ module _ (code : List ℤ) (k : ℕ) {s y : ℤ} (e : Squares code k s) (h : mag
   pub squares-fit : k ≤ 40 → SFits w64 (s +ℤ y)
   squares-fit l = rw sum-is (record { sfits = omega (arith, square-few (at code k) h, e .few) })
 
--- the last turn is behind
+-- after the last turn
 pub squares-end : (code : List ℤ) (k : ℕ) {s : ℤ} → Squares code k s → k ≡ 40 → Squares code 40 s
 squares-end code k e h = rw h at e
 

@@ -64,7 +64,7 @@ filled-all : (f : ℕ → ℤ) (n : ℕ) (l : List ℤ) → length l ≡ n → f
 unfolding filled
 filled-all f n l h = rw (← h, drop-length) (append-nil (tab (length l) f))
 
--- the last turn is behind
+-- after the last turn
 pub filled-end : (f : ℕ → ℤ) (n m : ℕ) (l out : List ℤ) → out ≡ filled f n l → n ≡ m → length l ≡ m → out ≡ tab m f
 filled-end f n m l out g h e = g ∙ rw h (filled-all f m l e)
 
@@ -108,7 +108,7 @@ unfolding tab
 map-tab g zero f = refl
 map-tab g (suc n) f = rw (map-tab g n f, map-append)
 
--- the last turn is behind
+-- after the last turn
 pub filled-map : (g : ℤ → ℤ) (l : List ℤ) (n : ℕ) (out : List ℤ) → out ≡ filled (λ k. g (at l k)) n l → n ≡ length l → out ≡ map g l
 filled-map g l n out e h =
     filled-end (λ k. g (at l k)) n (length l) l out e h refl ∙ map-tab g (length l) (at l) ∙ ap (map g) (tab-at l (length l) (omega arith) ∙ take-all (length l) l (omega arith))

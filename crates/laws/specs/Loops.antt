@@ -29,7 +29,7 @@ pub steps-turn {ℓ} : {A : Type ℓ} (f : ℕ → A → A) (n : ℕ) (s₀ s v 
 unfolding steps
 steps-turn f n s₀ s v e g = rw (add-one, ← e) g
 
--- the last turn is behind
+-- after the last turn
 pub steps-end {ℓ} : {A : Type ℓ} (f : ℕ → A → A) (n m : ℕ) (s₀ s : A) → s ≡ steps f n s₀ → n ≡ m → s ≡ steps f m s₀
 steps-end f n m s₀ s g h = rw h at g
 
@@ -68,7 +68,7 @@ pub nowhere-miss : (f : ℕ → Bool) (n : ℕ) (ok : Bool) → ok ≡ nowhere f
 unfolding nowhere steps
 nowhere-miss f n ok e p = rw (add-one, p) e
 
--- the last turn is behind
+-- after the last turn
 pub nowhere-end : (f : ℕ → Bool) (n m : ℕ) (ok : Bool) → ok ≡ nowhere f n → n ≡ m → ok ≡ nowhere f m
 nowhere-end f n m ok e h = rw h at e
 
@@ -103,7 +103,7 @@ run-more f p n l = rw add-one
 pub write : (f : ℕ → List ℤ → ℤ) (p n : ℕ) (l out : List ℤ) (v : ℤ) → out ≡ run f p n l → v ≡ f n out → set out (p + n) v ≡ run f p (n + 1) l
 write f p n l out v e g = rw (run-more, ← e, g)
 
--- the last turn is behind
+-- after the last turn
 pub run-end : (f : ℕ → List ℤ → ℤ) (p n m : ℕ) (l out : List ℤ) → out ≡ run f p n l → n ≡ m → out ≡ run f p m l
 run-end f p n m l out g h = rw h at g
 

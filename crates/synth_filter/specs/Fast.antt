@@ -1,4 +1,4 @@
--- What the private functions of the code say of each other: equation (77) as a sum of whole numbers that does not saturate, the weight of a filter, and how far the
+-- What the private functions of the code say of each other: equation (77) as a sum of whole numbers that does not saturate, the size of its coefficients, and how far the
 -- samples of a subframe are. No public contract cites these.
 use Prim.Native.Nat.{ℕ, _+_, _-_, _*_, _^_, _≤_, _<_}
 use mathlib.Core.Path.{_≡_}
@@ -20,14 +20,14 @@ term a y n i = at a (i + 1) *ℤ at y (n - (i + 1))
 unfoldable pub whole-sum : List ℤ → ℤ → List ℤ → ℕ → ℤ
 whole-sum a x y n = less (term a y n) 10 (x *ℤ at a 0)
 
--- the size of c; one of 32768 or more, with which a product may saturate, weighs 61440 or more
-unfoldable pub weight : ℤ → ℕ
-weight c = natAbs c + cond (ltb (natAbs c) 32768) 0 28672
+-- the size of c; for one of 32768 or more, with which a product may saturate, 61440 or more, which is above the limit
+unfoldable pub size : ℤ → ℕ
+size c = natAbs c + cond (ltb (natAbs c) 32768) 0 28672
 
--- the weight of a0 and the k coefficients behind it. The products of one sample are together at most 2 ^ 15 times the weight, and a sum that ends in range ends at
--- 2 ^ 15 times 4096 at most: so with a weight up to 61439, which is 65535 less 4096, twice the sum stays below 2 ^ 31 at every step (`less-between` of Sums)
-unfoldable pub weights : List ℤ → ℕ → ℕ
-weights a k = steps (λ i w. w + weight (at a (i + 1))) k (weight (at a 0))
+-- the sizes of a0 to ak together. The products of one sample are together at most 2 ^ 15 times that of all, and a sum that ends in range ends at
+-- 2 ^ 15 times 4096 at most: so with a size sum up to 61439, which is 65535 less 4096, twice the sum stays below 2 ^ 31 at every step (`less-between` of Sums)
+unfoldable pub size-sum : List ℤ → ℕ → ℕ
+size-sum a k = steps (λ i w. w + size (at a (i + 1))) k (size (at a 0))
 
 -- the past samples from the (k + 1)-th on are words
 abbrev pub Past : List ℤ → ℕ → ℕ → Type 0
@@ -39,28 +39,28 @@ Past y n k = (i : ℕ) → k ≤ i → i < 10 → natAbs (at y (n - (i + 1))) �
 unfoldable pub both : ℤ → ℤ → ℤ
 both p q = p +ℤ q *ℤ pos 4294967296
 
--- the coefficients of the sample at n - k: that for sample n, and that for the one behind it
+-- the coefficients of sample n - k: that for sample n, and that for sample n + 1
 unfoldable pub pairs : List ℤ → List ℤ
 pairs a = tab 10 (λ k. both (at a k) (at a (k + 1)))
 
--- what the sample at n - (i + 1) takes off the sum of the sample behind n
-abbrev pub term-behind : List ℤ → List ℤ → ℕ → ℕ → ℤ
-term-behind a y n i = at a (i + 1 + 1) *ℤ at y (n - (i + 1))
+-- what sample n - (i + 1) takes off the sum of sample n + 1
+abbrev pub next-term : List ℤ → List ℤ → ℕ → ℕ → ℤ
+next-term a y n i = at a (i + 1 + 1) *ℤ at y (n - (i + 1))
 
--- the sum of the sample behind n, of excitation x, without the product with sample n
-unfoldable pub sum-behind : List ℤ → ℤ → List ℤ → ℕ → ℤ
-sum-behind a x y n = less (term-behind a y n) 9 (x *ℤ at a 0)
+-- the sum of sample n + 1, of excitation x, without the product with sample n
+unfoldable pub next-sum : List ℤ → ℤ → List ℤ → ℕ → ℤ
+next-sum a x y n = less (next-term a y n) 9 (x *ℤ at a 0)
 
--- l holds the sums of sample n, of excitation x, and of the one behind it, of excitation u, when of both the m newest past samples are still to be taken off. With a weight up to
--- 61439 each is below 2 ^ 31 in size, so that the halves can be parted and l stays within 64 bits
+-- l holds the sums of samples n and n + 1, of excitations x and u, without the products with the m newest past samples. With a size sum up to 61439 each is
+-- below 2 ^ 31 in size, so the halves can be parted and l fits 64 bits
 pub record Halves (a : List ℤ) (x u : ℤ) (y : List ℤ) (n m : ℕ) (l : ℤ) : Type 0 where
   pub low : ℤ
   pub high : ℤ
   pub sum : l ≡ both low high
   pub low-rest : less (term a y n) m low ≡ whole-sum a x y n
-  pub high-rest : less (term-behind a y n) m high ≡ sum-behind a u y n
-  pub low-size : natAbs low + 32768 * weights a m ≤ 32768 * (weights a 10 + weight (at a 0))
-  pub high-size : natAbs high + 32768 * weights a (m + 1) ≤ 32768 * (weights a 10 + weight (at a 0))
+  pub high-rest : less (next-term a y n) m high ≡ next-sum a u y n
+  pub low-size : natAbs low + 32768 * size-sum a m ≤ 32768 * (size-sum a 10 + size (at a 0))
+  pub high-size : natAbs high + 32768 * size-sum a (m + 1) ≤ 32768 * (size-sum a 10 + size (at a 0))
 
 -- the whole sums that are rounded, from -2 ^ 27 to 2 ^ 27 - 2049: neither the shift by 3 of twice l nor the rounding sum saturates
 abbrev pub Range : ℤ → Type 0

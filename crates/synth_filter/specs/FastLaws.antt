@@ -1,4 +1,4 @@
--- Laws of the form without saturation: a sample is the whole sum rounded where the filter is light and the sum ends in range. Assumes nothing.
+-- Laws of the form without saturation: a sample is the whole sum rounded where the coefficients are small and the sum ends in range. Assumes nothing.
 use Prim.Native.Nat.{ℕ, zero, suc, _+_, _-_, _*_, _^_, _≤_, _<_}
 use mathlib.Core.Path.{_≡_, refl, sym, ap, subst}
 use mathlib.Core.Bool.{Bool, true, false, cond, _&&_, and-eq-true-iff}
@@ -21,24 +21,24 @@ use Rattle.basic_op.specs.Ops.{l-add, l-sub, l-mult, l-msu, l-shl, by-sign, ext
 use Rattle.basic_op.specs.Laws.{sat-id}
 use Rattle.synth_filter.specs.Filter.{synth-sum, synth-sum-overflow, synth-sample, synth-overflow, samples}
 use Rattle.synth_filter.specs.Laws.{any-none}
-use Rattle.synth_filter.specs.Fast.{term, whole-sum, weight, weights, Past, Range, Reached}
+use Rattle.synth_filter.specs.Fast.{term, whole-sum, size, size-sum, Past, Range, Reached}
 
--- ---- the weight of the coefficients
+-- ---- the size of the coefficients
 
-pub weight-size : (c : ℤ) → natAbs c ≤ weight c
-unfolding weight
-weight-size c = omega arith
+pub size-at-least : (c : ℤ) → natAbs c ≤ size c
+unfolding size
+size-at-least c = omega arith
 
 -- a product with a word
-pub product-size : (c v : ℤ) → natAbs v ≤ 32768 → natAbs (c *ℤ v) ≤ weight c * 32768
-product-size c v h = rw abs-mul (mul-le-mul (weight-size c) h)
+pub product-size : (c v : ℤ) → natAbs v ≤ 32768 → natAbs (c *ℤ v) ≤ size c * 32768
+product-size c v h = rw abs-mul (mul-le-mul (size-at-least c) h)
 
-pub excitation-size : (x c : ℤ) → natAbs x ≤ 32768 → natAbs (x *ℤ c) ≤ 32768 * weight c
-excitation-size x c h = rw abs-mul (mul-le-mul h (weight-size c))
+pub excitation-size : (x c : ℤ) → natAbs x ≤ 32768 → natAbs (x *ℤ c) ≤ 32768 * size c
+excitation-size x c h = rw abs-mul (mul-le-mul h (size-at-least c))
 
-weight-small : (c : ℤ) → weight c ≤ 61439 → natAbs c ≤ 32767
-unfolding weight
-weight-small c h = go (ltb (natAbs c) 32768) refl h
+size-small : (c : ℤ) → size c ≤ 61439 → natAbs c ≤ 32767
+unfolding size
+size-small c h = go (ltb (natAbs c) 32768) refl h
   where
     go : (t : Bool) → ltb (natAbs c) 32768 ≡ t → natAbs c + cond t 0 28672 ≤ 61439 → natAbs c ≤ 32767
     go true e q = omega (arith, ltb-true (natAbs c) 32768 e)
@@ -46,26 +46,26 @@ weight-small c h = go (ltb (natAbs c) 32768) refl h
 
 -- by the code's test on y, which is the word c read back
 module _ {y c : ℤ} (e : y ≡ c) (f : SFits w16 c) where
-  pub weight-heavy : ltZ y (negsuc 32766) ≡ true → 61440 ≡ weight c
-  unfolding weight
-  weight-heavy p = go c (f .sfits) (rw e at p)
+  pub size-large : ltZ y (negsuc 32766) ≡ true → 61440 ≡ size c
+  unfolding size
+  size-large p = go c (f .sfits) (rw e at p)
     where
       go : (c : ℤ) → mag c < 32768 → ltZ c (negsuc 32766) ≡ true → 61440 ≡ natAbs c + cond (ltb (natAbs c) 32768) 0 28672
       go (pos n) h p = let q : _≡_ {A = Bool} false true = p in absurd (subst T (sym q) tt)
       go (negsuc n) h p = let q = ltb-true 32766 n p in rw (le-ltb (suc n) 32768 (omega arith)) (omega arith)
 
-  pub weight-plain : ltZ y (negsuc 32766) ≡ false → natAbs c ≡ weight c
-  unfolding weight
-  weight-plain p = go c (f .sfits) (rw e at p)
+  pub size-plain : ltZ y (negsuc 32766) ≡ false → natAbs c ≡ size c
+  unfolding size
+  size-plain p = go c (f .sfits) (rw e at p)
     where
       go : (c : ℤ) → mag c < 32768 → ltZ c (negsuc 32766) ≡ false → natAbs c ≡ natAbs c + cond (ltb (natAbs c) 32768) 0 28672
       go (pos n) h p = rw (lt-ltb n 32768 (omega arith)) (omega arith)
       go (negsuc n) h p = let q = ltb-false 32766 n p in rw (lt-ltb (suc n) 32768 (omega arith)) (omega arith)
 
-pub weights-one : (a : List ℤ) (k i : ℕ) → i < k → weight (at a (i + 1)) ≤ weights a k
-unfolding weights steps
-weights-one a zero i h = absurd (omega arith)
-weights-one a (suc k) i h = ⊎-elim (λ e. rw e (omega arith)) (λ q. omega (arith, weights-one a k i q)) (eq-or-lt-of-le {n = i} {m = k} (omega arith))
+pub size-sum-one : (a : List ℤ) (k i : ℕ) → i < k → size (at a (i + 1)) ≤ size-sum a k
+unfolding size-sum steps
+size-sum-one a zero i h = absurd (omega arith)
+size-sum-one a (suc k) i h = ⊎-elim (λ e. rw e (omega arith)) (λ q. omega (arith, size-sum-one a k i q)) (eq-or-lt-of-le {n = i} {m = k} (omega arith))
 
 -- ---- the code's loop takes the oldest sample off first, and learns of each that it is a word
 
@@ -86,17 +86,17 @@ unfolding overflow
 overflow-none n (pos a) h = rw (le-ltb n a h)
 overflow-none n (negsuc a) h = rw (le-ltb n a h)
 
-module _ (a : List ℤ) (x : ℤ) (y : List ℤ) (n : ℕ) (light : weights a 10 ≤ 61439) (word : natAbs x ≤ 32768) (past : Past y n 0) where
-  term-size : (i : ℕ) → i < 10 → natAbs (term a y n i) ≤ weight (at a (i + 1)) * 32768
+module _ (a : List ℤ) (x : ℤ) (y : List ℤ) (n : ℕ) (bounded : size-sum a 10 ≤ 61439) (word : natAbs x ≤ 32768) (past : Past y n 0) where
+  term-size : (i : ℕ) → i < 10 → natAbs (term a y n i) ≤ size (at a (i + 1)) * 32768
   term-size i h = product-size (at a (i + 1)) (at y (n - (i + 1))) (past i (omega arith) h)
 
   term-fits : (i : ℕ) → i < 10 → mag (pos 2 *ℤ term a y n i) ≤ 2147483647
   term-fits i h =
-      let p : natAbs (term a y n i) ≤ 32767 * 32768 = rw abs-mul (mul-le-mul (weight-small (at a (i + 1)) (omega (arith, weights-one a 10 i h))) (past i (omega arith) h)) in
+      let p : natAbs (term a y n i) ≤ 32767 * 32768 = rw abs-mul (mul-le-mul (size-small (at a (i + 1)) (omega (arith, size-sum-one a 10 i h))) (past i (omega arith) h)) in
       mag-double (term a y n i) 2147483647 (omega arith)
 
-  all-sizes : (k : ℕ) → k ≤ 10 → natAbs (x *ℤ at a 0) + sizes (term a y n) k ≤ 32768 * weights a k
-  unfolding weights steps
+  all-sizes : (k : ℕ) → k ≤ 10 → natAbs (x *ℤ at a 0) + sizes (term a y n) k ≤ 32768 * size-sum a k
+  unfolding size-sum steps
   all-sizes zero h = omega (arith, excitation-size x (at a 0) word)
   all-sizes (suc k) h = omega (arith, all-sizes k (omega arith), term-size k h)
 
@@ -197,10 +197,10 @@ module _ (l : ℤ) (h : Range l) where
   round-quiet = rw shl-whole (overflow-none 2147483647 (times-16 l +ℤ pos 32768) (sum-fits-16 l h))
 
 -- the sample is the whole sum rounded, and no operation of it saturates
-module _ (a : List ℤ) (x : ℤ) (y : List ℤ) (n : ℕ) (light : weights a 10 ≤ 61439) (word : natAbs x ≤ 32768) (past : Past y n 0) (h : Range (whole-sum a x y n)) where
+module _ (a : List ℤ) (x : ℤ) (y : List ℤ) (n : ℕ) (bounded : size-sum a 10 ≤ 61439) (word : natAbs x ≤ 32768) (past : Past y n 0) (h : Range (whole-sum a x y n)) where
   whole-is : synth-sum a x y n 10 ≡ pos 2 *ℤ whole-sum a x y n
   unfolding whole-sum
-  whole-is = sum-whole a x y n light word past (range-size (whole-sum a x y n) h) 10 (le-refl 10)
+  whole-is = sum-whole a x y n bounded word past (range-size (whole-sum a x y n) h) 10 (le-refl 10)
 
   pub sample-whole : synth-sample a x y n ≡ shrZ (whole-sum a x y n +ℤ pos 2048) (2 ^ 12)
   unfolding synth-sample
@@ -209,7 +209,7 @@ module _ (a : List ℤ) (x : ℤ) (y : List ℤ) (n : ℕ) (light : weights a 10
   pub sample-quiet : synth-overflow a x y n ≡ false
   unfolding synth-overflow
   sample-quiet =
-      rw (sum-quiet a x y n light word past (range-size (whole-sum a x y n) h) 10 (le-refl 10), whole-is, shl-quiet (whole-sum a x y n) h, round-quiet (whole-sum a x y n) h)
+      rw (sum-quiet a x y n bounded word past (range-size (whole-sum a x y n) h) 10 (le-refl 10), whole-is, shl-quiet (whole-sum a x y n) h, round-quiet (whole-sum a x y n) h)
 
 -- ---- the samples of a subframe
 

@@ -18,10 +18,10 @@ use Rattle.laws.specs.Loops.{steps, steps-same}
 use Rattle.laws.specs.Range.{abs-mul, mag-abs, mag-sub, mag-word}
 use Rattle.laws.specs.Sums.{abs-add, abs-sub, less, less-first, less-front}
 use Rattle.laws.specs.Ints.{add-swap, sub-sums, mul-add, sub-mul, mul-swap, shr-add}
-use Rattle.synth_filter.specs.Fast.{term, whole-sum, weight, weights, Past, both, pairs, term-behind, sum-behind, Halves, Rounded, Sampled, Reached}
+use Rattle.synth_filter.specs.Fast.{term, whole-sum, size, size-sum, Past, both, pairs, next-term, next-sum, Halves, Rounded, Sampled, Reached}
 use Rattle.synth_filter.specs.Filter.{exc-start, speech-start}
 use Rattle.synth_filter.specs.Laws.{samples-turn, saturates-turn}
-use Rattle.synth_filter.specs.FastLaws.{weight-size, product-size, excitation-size, weights-one, sample-whole, sample-quiet}
+use Rattle.synth_filter.specs.FastLaws.{size-at-least, product-size, excitation-size, size-sum-one, sample-whole, sample-quiet}
 
 -- ---- two numbers in one
 
@@ -71,26 +71,26 @@ pub low-half : (l h : ℤ) → both l h -ℤ h *ℤ pos 4294967296 ≡ l
 unfolding both
 low-half l h = +ℤ-negℤ-cancel l (h *ℤ pos 4294967296)
 
--- ---- the weight of the coefficients
+-- ---- the size of the coefficients
 
-weights-more : (a : List ℤ) (k : ℕ) → weights a (k + 1) ≡ weights a k + weight (at a (k + 1))
-unfolding weights steps
-weights-more a k = ap (weights a) (add-one k)
+size-sum-more : (a : List ℤ) (k : ℕ) → size-sum a (k + 1) ≡ size-sum a k + size (at a (k + 1))
+unfolding size-sum steps
+size-sum-more a k = ap (size-sum a) (add-one k)
 
-weights-first : (a : List ℤ) (k : ℕ) → weight (at a 0) ≤ weights a k
-unfolding weights steps
-weights-first a zero = omega arith
-weights-first a (suc k) = omega (arith, weights-first a k)
+size-sum-first : (a : List ℤ) (k : ℕ) → size (at a 0) ≤ size-sum a k
+unfolding size-sum steps
+size-sum-first a zero = omega arith
+size-sum-first a (suc k) = omega (arith, size-sum-first a k)
 
-coefficient-size : (a : List ℤ) (k : ℕ) → weights a 10 ≤ 61439 → k < 10 → natAbs (at a (k + 1)) ≤ 61439
-coefficient-size a k h q = omega (arith, weight-size (at a (k + 1)), weights-one a 10 k q)
+coefficient-size : (a : List ℤ) (k : ℕ) → size-sum a 10 ≤ 61439 → k < 10 → natAbs (at a (k + 1)) ≤ 61439
+coefficient-size a k h q = omega (arith, size-at-least (at a (k + 1)), size-sum-one a 10 k q)
 
 -- the coefficients of the sample at n - k together
 pub pairs-at : (a : List ℤ) (k : ℕ) → k < 10 → at (pairs a) k ≡ both (at a k) (at a (k + 1))
 unfolding pairs
 pairs-at a k h = at-tab (λ k. both (at a k) (at a (k + 1))) 10 k h
 
-pub pairs-size : (a : List ℤ) (k : ℕ) → weights a 10 ≤ 61439 → k < 9 → natAbs (at (pairs a) (k + 1)) ≤ 263878495760383
+pub pairs-size : (a : List ℤ) (k : ℕ) → size-sum a 10 ≤ 61439 → k < 9 → natAbs (at (pairs a) (k + 1)) ≤ 263878495760383
 pairs-size a k h q =
     rw (pairs-at a (k + 1) (omega arith))
     (omega (arith, both-size (at a (k + 1)) (at a (k + 1 + 1)) 61439 (coefficient-size a k h (omega arith)) (coefficient-size a (k + 1) h (omega arith))))
@@ -107,7 +107,7 @@ size-turn l t w m k b h e q = omega (arith, abs-sub l t)
 module _ (a : List ℤ) (x u : ℤ) (y : List ℤ) (n : ℕ) where
   -- the products with the excitation, and the oldest sample, which is none of the other sum's
   pub halves-start : natAbs x ≤ 32768 → natAbs u ≤ 32768 → natAbs (at y (n - 10)) ≤ 32768 → (l p : ℤ) → l ≡ both x u *ℤ at a 0 → p ≡ at a 10 *ℤ at y (n - 10) → Halves a x u y n 9 (l -ℤ p)
-  unfolding whole-sum sum-behind steps
+  unfolding whole-sum next-sum steps
   halves-start hx hu hv l p e f =
       record {
         low = x *ℤ at a 0 -ℤ at a 10 *ℤ at y (n - 10);
@@ -115,7 +115,7 @@ module _ (a : List ℤ) (x u : ℤ) (y : List ℤ) (n : ℕ) where
         sum = rw (e, f, both-times) (both-sub-low (x *ℤ at a 0) (u *ℤ at a 0) (at a 10 *ℤ at y (n - 10)));
         low-rest = less-first (term a y n) 9 (x *ℤ at a 0) (at a 10 *ℤ at y (n - 10));
         high-rest = refl;
-        low-size = omega (arith, abs-sub (x *ℤ at a 0) (at a 10 *ℤ at y (n - 10)), excitation-size x (at a 0) hx, product-size (at a 10) (at y (n - 10)) hv, weights-more a 9);
+        low-size = omega (arith, abs-sub (x *ℤ at a 0) (at a 10 *ℤ at y (n - 10)), excitation-size x (at a 0) hx, product-size (at a 10) (at y (n - 10)) hv, size-sum-more a 9);
         high-size = omega (arith, excitation-size u (at a 0) hu);
       }
 
@@ -129,17 +129,17 @@ module _ (a : List ℤ) (x u : ℤ) (y : List ℤ) (n : ℕ) where
         high = h .high -ℤ s;
         sum = rw (h .sum, g, e, f, both-times (at a m) (at a (m + 1)) (at y (n - m))) (both-sub (h .low) (h .high) t s);
         low-rest = rest-turn (term a y n) k m d (h .low) t _ (rw d) (h .low-rest);
-        high-rest = rest-turn (term-behind a y n) k m d (h .high) s _ (rw d) (h .high-rest);
-        low-size = size-turn (h .low) t (weight (at a m)) (weights a m) (weights a k) _ (product-size (at a m) (at y (n - m)) hv) (rw d (weights-more a k)) (h .low-size);
-        high-size = size-turn (h .high) s (weight (at a (m + 1))) (weights a (m + 1)) (weights a (k + 1)) _ (product-size (at a (m + 1)) (at y (n - m)) hv) (rw d (weights-more a (k + 1))) (h .high-size);
+        high-rest = rest-turn (next-term a y n) k m d (h .high) s _ (rw d) (h .high-rest);
+        low-size = size-turn (h .low) t (size (at a m)) (size-sum a m) (size-sum a k) _ (product-size (at a m) (at y (n - m)) hv) (rw d (size-sum-more a k)) (h .low-size);
+        high-size = size-turn (h .high) s (size (at a (m + 1))) (size-sum a (m + 1)) (size-sum a (k + 1)) _ (product-size (at a (m + 1)) (at y (n - m)) hv) (rw d (size-sum-more a (k + 1))) (h .high-size);
       }
 
-  module _ (light : weights a 10 ≤ 61439) (m : ℕ) (l : ℤ) (h : Halves a x u y n m l) where
+  module _ (bounded : size-sum a 10 ≤ 61439) (m : ℕ) (l : ℤ) (h : Halves a x u y n m l) where
     pub low-small : natAbs (h .low) ≤ 2013233152
-    low-small = omega (arith, h .low-size, weights-first a m)
+    low-small = omega (arith, h .low-size, size-sum-first a m)
 
     pub high-small : natAbs (h .high) ≤ 2013233152
-    high-small = omega (arith, h .high-size, weights-first a (m + 1))
+    high-small = omega (arith, h .high-size, size-sum-first a (m + 1))
 
     pub halves-size : natAbs l ≤ 8646770549076230144
     halves-size = rw (h .sum) (omega (arith, both-size (h .low) (h .high) 2013233152 low-small high-small))
@@ -167,8 +167,8 @@ half-less l p h q = omega (arith, mag-sub l p 2013233153 2147483648 (omega (arit
 pub small-fits : (l : ℤ) → mag l < 8589934592 → SFits w64 l
 small-fits l h = record { sfits = omega arith }
 
-pub behind-fits : (l p : ℤ) → mag l < 8589934592 → mag p < 2147483648 → SFits w64 (l -ℤ p)
-behind-fits l p h q = record { sfits = omega (arith, mag-sub l p 8589934592 2147483648 h q) }
+pub next-fits : (l p : ℤ) → mag l < 8589934592 → mag p < 2147483648 → SFits w64 (l -ℤ p)
+next-fits l p h q = record { sfits = omega (arith, mag-sub l p 8589934592 2147483648 h q) }
 
 -- ---- the newest sample
 
@@ -177,21 +177,21 @@ module _ (a : List ℤ) (x u : ℤ) (y : List ℤ) (n : ℕ) (l : ℤ) (h : Halv
   unfolding steps
   low-end = h .low-rest
 
-  pub high-end : h .high -ℤ at a 2 *ℤ at y (n - 1) ≡ sum-behind a u y n
+  pub high-end : h .high -ℤ at a 2 *ℤ at y (n - 1) ≡ next-sum a u y n
   unfolding steps
   high-end = h .high-rest
 
 -- ---- the samples
 
--- when sample n is written, its product ends the sum of the one behind it
+-- when sample n is written, its product ends the sum of sample n + 1
 module _ (a : List ℤ) (u : ℤ) (y : List ℤ) (n : ℕ) (w : ℤ) (from : 10 ≤ n) where
   older : (i : ℕ) → i < 9 → at (set y n w) (n + 1 - (suc i + 1)) ≡ at y (n - (i + 1))
   older i h =
       let e : n + 1 - (suc i + 1) ≡ n - (i + 1) = omega arith in
       rw e (getD-set-other y n (n - (i + 1)) w (pos 0) (λ q. omega arith))
 
-  pub sum-next : whole-sum a u (set y n w) (n + 1) ≡ sum-behind a u y n -ℤ at a 1 *ℤ at (set y n w) n
-  unfolding whole-sum sum-behind steps
+  pub sum-next : whole-sum a u (set y n w) (n + 1) ≡ next-sum a u y n -ℤ at a 1 *ℤ at (set y n w) n
+  unfolding whole-sum next-sum steps
   sum-next =
       let e : n + 1 - (0 + 1) ≡ n = omega arith in
       less-front (term a (set y n w) (n + 1)) 9 (u *ℤ at a 0)
@@ -205,17 +205,17 @@ module _ (a : List ℤ) (u : ℤ) (y : List ℤ) (n : ℕ) (w : ℤ) (from : 10 
       rw e h
   past-next p h (suc i) q b = rw (older i (omega arith)) (p i (omega arith) (omega arith))
 
-module _ (a : List ℤ) (x : ℤ) (y : List ℤ) (n : ℕ) (light : weights a 10 ≤ 61439) (word : natAbs x ≤ 32768) (past : Past y n 0) where
+module _ (a : List ℤ) (x : ℤ) (y : List ℤ) (n : ℕ) (bounded : size-sum a 10 ≤ 61439) (word : natAbs x ≤ 32768) (past : Past y n 0) where
   pub sampled : (l w : ℤ) → l ≡ whole-sum a x y n → Rounded l w → Sampled a x y n w
   sampled l w e r =
       let h : Rounded (whole-sum a x y n) w = rw e at r in
-      (h .1 ∙ sym (sample-whole a x y n light word past (h .0)), sym (sample-quiet a x y n light word past (h .0)))
+      (h .1 ∙ sym (sample-whole a x y n bounded word past (h .0)), sym (sample-quiet a x y n bounded word past (h .0)))
 
 -- the second of two, when the first is written; b and v are what the code holds
-module _ (a : List ℤ) (u : ℤ) (y : List ℤ) (n : ℕ) (w : ℤ) (from : 10 ≤ n) (light : weights a 10 ≤ 61439) (word : natAbs u ≤ 32768) (past : Past y n 0) (first : natAbs (at (set y n w) n) ≤ 32768) where
-  pub sampled-next : (b c v r : ℤ) → b ≡ c → c ≡ sum-behind a u y n → v ≡ at (set y n w) n → Rounded (b -ℤ at a 1 *ℤ v) r → Sampled a u (set y n w) (n + 1) r
+module _ (a : List ℤ) (u : ℤ) (y : List ℤ) (n : ℕ) (w : ℤ) (from : 10 ≤ n) (bounded : size-sum a 10 ≤ 61439) (word : natAbs u ≤ 32768) (past : Past y n 0) (first : natAbs (at (set y n w) n) ≤ 32768) where
+  pub sampled-next : (b c v r : ℤ) → b ≡ c → c ≡ next-sum a u y n → v ≡ at (set y n w) n → Rounded (b -ℤ at a 1 *ℤ v) r → Sampled a u (set y n w) (n + 1) r
   sampled-next b c v r g e f q =
-      sampled a u (set y n w) (n + 1) light word (past-next a u y n w from past first) (b -ℤ at a 1 *ℤ v) r (rw (g, e, f) (sym (sum-next a u y n w from))) q
+      sampled a u (set y n w) (n + 1) bounded word (past-next a u y n w from past first) (b -ℤ at a 1 *ℤ v) r (rw (g, e, f) (sym (sum-next a u y n w from))) q
 
 -- ---- one sample more of the subframe, written at p; t is its word read back
 

@@ -8,7 +8,7 @@ ghost use lib.IntN.{ℤ, natAbs, _-ℤ_, _*ℤ_};
 ghost use lib.Signed.{mag};
 ghost use Rattle.laws.specs.Lists.{at};
 ghost use Rattle.synth_filter.specs.Filter.{exc-start, speech-start, synth-sample, synth-overflow, synthesis, saturates};
-ghost use Rattle.synth_filter.specs.Fast.{weight, weights, both, pairs, sum-behind, Past, Halves, Rounded, Sampled, Reached};
+ghost use Rattle.synth_filter.specs.Fast.{size, size-sum, both, pairs, next-sum, Past, Halves, Rounded, Sampled, Reached};
 
 // The place of the subframe's first word of excitation.
 pub fn exc_start(second: bool) -> usize
@@ -57,9 +57,9 @@ fn synth_sample(a: &[i16; 11], x: i16, y: &[i16; 90], n: usize) -> Sample
     }
 }
 
-// The size of a coefficient; -32768, whose products may saturate, weighs too much for any filter.
-fn weight(c: i16) -> u32
-    ensures { λ r. ⌜ r ≡ weight c ⌝ }
+// The size of a coefficient; for -32768, whose products may saturate, 61440, which is above the limit.
+fn size(c: i16) -> u32
+    ensures { λ r. ⌜ r ≡ size c ⌝ }
     ensures { λ r. ⌜ r ≤ 61440 ⌝ }
 {
     if c < -32767 {
@@ -71,13 +71,13 @@ fn weight(c: i16) -> u32
     }
 }
 
-// The weight of the whole filter.
-fn weights(a: &[i16; 11]) -> u32
-    ensures { λ r. ⌜ r ≡ weights (now (a .entry)) 10 ⌝ }
+// The sizes of all coefficients together.
+fn size_sum(a: &[i16; 11]) -> u32
+    ensures { λ r. ⌜ r ≡ size-sum (now (a .entry)) 10 ⌝ }
 {
-    let mut w = weight(a[0]);
+    let mut w = size(a[0]);
     for i in 0..10 {
-        w = w + weight(a[i + 1]);
+        w = w + size(a[i + 1]);
     }
     w
 }
@@ -97,7 +97,7 @@ fn both(p: i16, q: i16) -> i64
     p as i64 + q as i64 * 4294967296
 }
 
-// Both halves times c. They are no larger than the heaviest filter: 61439 times 2 ^ 32 + 1 is what both make at most.
+// Both halves times c. b is at most 61439 (2^32 + 1) in size, so the product fits 64 bits.
 fn both_times(b: i64, c: i16) -> i64
     requires { ⌜ natAbs b ≤ 263878495760383 ⌝ }
     ensures { λ r. ⌜ r ≡ b *ℤ c ⌝ }
@@ -105,7 +105,7 @@ fn both_times(b: i64, c: i16) -> i64
     b * c as i64
 }
 
-// For each k the coefficients by which the sample at n - k goes into sample n and into the one behind it.
+// For each k the coefficients by which sample n - k enters sample n (low half) and sample n + 1 (high half).
 fn pairs(a: &[i16; 11]) -> [i64; 10]
     ensures { λ r. ⌜ r ≡ pairs (now (a .entry)) ⌝ }
 {
@@ -116,10 +116,10 @@ fn pairs(a: &[i16; 11]) -> [i64; 10]
     b
 }
 
-// The sums of sample n and of the one behind it in the halves of one number, each without its products with the sample before n and with sample n.
+// The sums of samples n and n + 1 in the halves of one number, still without their products with samples n - 1 and n.
 fn both_sums(a: &[i16; 11], b: &[i64; 10], x: i16, next: i16, y: &[i16; 90], n: usize) -> i64
     requires { ⌜ now b ≡ pairs (now a) ⌝ }
-    requires { ⌜ weights (now a) 10 ≤ 61439 ⌝ }
+    requires { ⌜ size-sum (now a) 10 ≤ 61439 ⌝ }
     requires { ⌜ n ≤ 90 ⌝ }
     requires { ⌜ 10 ≤ n ⌝ }
     ensures { λ r. ⌜ Halves (now (a .entry)) x next (now (y .entry)) n 1 r ⌝ }
@@ -150,14 +150,14 @@ fn rounded(l: i64) -> Sample
     }
 }
 
-// A sample, whether its sum is out of range, and the sum of the sample behind it without their product.
+// Sample n, whether its sum is out of range, and the sum of sample n + 1 without its product with sample n.
 struct First {
     word: i16,
     overflow: bool,
-    behind: i64,
+    sum: i64,
 }
 
-// The first of two samples, for a filter so light that no operation on the way saturates if the sum ends in range. The newest past sample, which
+// The first of two samples, for coefficients so small that no operation on the way saturates if the sum ends in range. The newest past sample, which
 // both sums wait for, comes last, and not through memory.
 fn first_of_two(
     a: &[i16; 11],
@@ -169,33 +169,33 @@ fn first_of_two(
     n: usize,
 ) -> First
     requires { ⌜ now b ≡ pairs (now a) ⌝ }
-    requires { ⌜ weights (now a) 10 ≤ 61439 ⌝ }
+    requires { ⌜ size-sum (now a) 10 ≤ 61439 ⌝ }
     requires { ⌜ newest ≡ at (now y) (n - 1) ⌝ }
     requires { ⌜ n ≤ 90 ⌝ }
     requires { ⌜ 10 ≤ n ⌝ }
     ensures { λ r. ⌜ (r .overflow ≡ false → Sampled (now (a .entry)) x (now (y .entry)) n (r .word)) ⌝ }
-    ensures { λ r. ⌜ r .behind ≡ sum-behind (now (a .entry)) next (now (y .entry)) n ⌝ }
-    ensures { λ r. ⌜ mag (r .behind) < 8589934592 ⌝ }
+    ensures { λ r. ⌜ r .sum ≡ next-sum (now (a .entry)) next (now (y .entry)) n ⌝ }
+    ensures { λ r. ⌜ mag (r .sum) < 8589934592 ⌝ }
     ensures { λ r. ⌜ Past (now (y .entry)) n 0 ⌝ }
 {
     let sums = both_sums(a, b, x, next, y, n);
     let high = basic_op::sar64(sums + 2147483648, 32);
     let low = sums - high * 4294967296;
-    let behind = high - product(a[2], newest);
+    let sum = high - product(a[2], newest);
     let s = rounded(low - product(a[1], newest));
     First {
         word: s.word,
         overflow: s.overflow,
-        behind,
+        sum,
     }
 }
 
 // The second: its sum waits for the first alone.
-fn second_of_two(a: &[i16; 11], behind: i64, first: i16) -> Sample
-    requires { ⌜ mag behind < 8589934592 ⌝ }
-    ensures { λ r. ⌜ (r .overflow ≡ false → Rounded (behind -ℤ at (now (a .entry)) 1 *ℤ first) (r .word)) ⌝ }
+fn second_of_two(a: &[i16; 11], sum: i64, first: i16) -> Sample
+    requires { ⌜ mag sum < 8589934592 ⌝ }
+    ensures { λ r. ⌜ (r .overflow ≡ false → Rounded (sum -ℤ at (now (a .entry)) 1 *ℤ first) (r .word)) ⌝ }
 {
-    rounded(behind - product(a[1], first))
+    rounded(sum - product(a[1], first))
 }
 
 // Writes the subframe's samples by their whole sums, two a turn, up to the first that may saturate, and says how many. The plain form has a loop
@@ -206,7 +206,7 @@ fn whole_samples(a: &[i16; 11], exc: &[i16; 234], second: bool, speech: &mut [i1
 {
     let from = exc_start(second);
     let start = speech_start(second);
-    if weights(a) > 61439 {
+    if size_sum(a) > 61439 {
         return 0;
     }
     let b = pairs(a);
@@ -220,9 +220,9 @@ fn whole_samples(a: &[i16; 11], exc: &[i16; 234], second: bool, speech: &mut [i1
             return n;
         }
         let word = s.word;
-        let behind = s.behind;
+        let sum = s.sum;
         speech[k] = word;
-        let t = second_of_two(a, behind, speech[k]);
+        let t = second_of_two(a, sum, speech[k]);
         if t.overflow {
             return n + 1;
         }

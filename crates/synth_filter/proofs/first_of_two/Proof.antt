@@ -10,7 +10,7 @@ use mir.Val.{toZ, ofZ}
 use mir.Facts.{toZ-ofZ}
 use Rattle.laws.specs.Lists.{at}
 use Rattle.laws.specs.Back.{via, came}
-use Rattle.synth_filter.specs.Fast.{whole-sum, sum-behind, weights, Past, Halves}
+use Rattle.synth_filter.specs.Fast.{whole-sum, next-sum, size-sum, Past, Halves}
 use Rattle.laws.specs.Range.{mag-abs}
 use Rattle.synth_filter.specs.FastLaws.{past-turn}
 use Rattle.synth_filter.specs.Pairs.{low-small, high-small, halves-raised, halves-high, halves-up, halves-low, low-end, high-end, half-less, small-fits, sampled}
@@ -20,32 +20,32 @@ use Rattle.synth_filter.proofs.first_of_two.Tie as tie
 halves : (c : tie.After-both-sums) → Halves (c .before .args .a .now) (c .before .args .x) (c .before .args .next) (c .before .args .y .now) (c .before .args .n) 1 (c .both-sums .result)
 halves c = rw (toZ-ofZ (c .before .fits .x), toZ-ofZ (c .before .fits .next)) at (c .both-sums .ensures .0)
 
-light : (c : tie.Start) → weights (c .args .a .now) 10 ≤ 61439
-light c = c .pre .1 .0
+bounded : (c : tie.Start) → size-sum (c .args .a .now) 10 ≤ 61439
+bounded c = c .pre .1 .0
 
 add-sar64 : tie.Need-add-sar64
-add-sar64 c = rw (came w64 (c .both-sums)) (halves-raised _ _ _ _ _ (light (c .before)) 1 _ (halves c))
+add-sar64 c = rw (came w64 (c .both-sums)) (halves-raised _ _ _ _ _ (bounded (c .before)) 1 _ (halves c))
 
 high : (c : tie.After-sar64) → toZ w64 (ofZ w64 (c .sar64 .result)) ≡ halves (c .before) .high
 high c =
     let b = c .before in
     came w64 (c .sar64) ∙ c .sar64 .ensures ∙ ap (λ (z : ℤ). shrZ z (2 ^ 32)) (toZ-ofZ (add-sar64 b) ∙ ap (λ (z : ℤ). z +ℤ pos 2147483648) (came w64 (b .both-sums)))
-    ∙ halves-high _ _ _ _ _ (light (b .before)) 1 _ (halves b)
+    ∙ halves-high _ _ _ _ _ (bounded (b .before)) 1 _ (halves b)
 
 mul-low : tie.Need-mul-low
-mul-low c = rw (high c) (halves-up _ _ _ _ _ (light (c .before .before)) 1 _ (halves (c .before)))
+mul-low c = rw (high c) (halves-up _ _ _ _ _ (bounded (c .before .before)) 1 _ (halves (c .before)))
 
 -- what the code takes the low half for
 low-is : (c : tie.After-sar64) → toZ w64 (ofZ w64 (c .before .both-sums .result)) -ℤ toZ w64 (ofZ w64 (toZ w64 (ofZ w64 (c .sar64 .result)) *ℤ pos 4294967296)) ≡ halves (c .before) .low
 low-is c =
     let b = c .before in
     ap (λ (z : ℤ). toZ w64 (ofZ w64 (b .both-sums .result)) -ℤ z) (toZ-ofZ (mul-low c) ∙ ap (λ (z : ℤ). z *ℤ pos 4294967296) (high c))
-    ∙ ap (λ (z : ℤ). z -ℤ halves b .high *ℤ pos 4294967296) (came w64 (b .both-sums)) ∙ halves-low _ _ _ _ _ (light (b .before)) 1 _ (halves b)
+    ∙ ap (λ (z : ℤ). z -ℤ halves b .high *ℤ pos 4294967296) (came w64 (b .both-sums)) ∙ halves-low _ _ _ _ _ (bounded (b .before)) 1 _ (halves b)
 
 sub-low : tie.Need-sub-low
 sub-low c =
     let h = halves (c .before) in
-    rw (low-is c) (small-fits (h .low) (omega (arith, mag-abs (h .low), low-small _ _ _ _ _ (light (c .before .before)) 1 _ h)))
+    rw (low-is c) (small-fits (h .low) (omega (arith, mag-abs (h .low), low-small _ _ _ _ _ (bounded (c .before .before)) 1 _ h)))
 
 low : (c : tie.After-sar64) → toZ w64 (ofZ w64 (toZ w64 (ofZ w64 (c .before .both-sums .result)) -ℤ toZ w64 (ofZ w64 (toZ w64 (ofZ w64 (c .sar64 .result)) *ℤ pos 4294967296)))) ≡ halves (c .before) .low
 low c = toZ-ofZ (sub-low c) ∙ low-is c
@@ -53,28 +53,28 @@ low c = toZ-ofZ (sub-low c) ∙ low-is c
 newest : (c : tie.Start) → toZ w16 (ofZ w16 (c .args .newest)) ≡ at (c .args .y .now) (c .args .n - 1)
 newest c = toZ-ofZ (c .fits .newest) ∙ c .pre .1 .1 .0
 
--- the sum of the sample behind
-behind-size : (c : tie.After-product) → mag (toZ w64 (ofZ w64 (c .before .before .sar64 .result)) -ℤ toZ w64 (ofZ w64 (c .product .result))) < 8589934592
-behind-size c =
+-- the sum of sample n + 1
+next-size : (c : tie.After-product) → mag (toZ w64 (ofZ w64 (c .before .before .sar64 .result)) -ℤ toZ w64 (ofZ w64 (c .product .result))) < 8589934592
+next-size c =
     let b = c .before .before .before in
-    rw (high (c .before .before), came w64 (c .product)) (half-less (halves b .high) (c .product .result) (high-small _ _ _ _ _ (light (b .before)) 1 _ (halves b)) (c .product .ensures .1))
+    rw (high (c .before .before), came w64 (c .product)) (half-less (halves b .high) (c .product .result) (high-small _ _ _ _ _ (bounded (b .before)) 1 _ (halves b)) (c .product .ensures .1))
 
-sub-behind : tie.Need-sub-behind
-sub-behind c = small-fits (toZ w64 (ofZ w64 (c .before .before .sar64 .result)) -ℤ toZ w64 (ofZ w64 (c .product .result))) (behind-size c)
+sub-next : tie.Need-sub-sum
+sub-next c = small-fits (toZ w64 (ofZ w64 (c .before .before .sar64 .result)) -ℤ toZ w64 (ofZ w64 (c .product .result))) (next-size c)
 
-behind : (c : tie.After-product)
-    → toZ w64 (ofZ w64 (toZ w64 (ofZ w64 (c .before .before .sar64 .result)) -ℤ toZ w64 (ofZ w64 (c .product .result)))) ≡ sum-behind (c .before .before .before .before .args .a .now) (c .before .before .before .before .args .next) (c .before .before .before .before .args .y .now) (c .before .before .before .before .args .n)
-behind c =
+the-next : (c : tie.After-product)
+    → toZ w64 (ofZ w64 (toZ w64 (ofZ w64 (c .before .before .sar64 .result)) -ℤ toZ w64 (ofZ w64 (c .product .result)))) ≡ next-sum (c .before .before .before .before .args .a .now) (c .before .before .before .before .args .next) (c .before .before .before .before .args .y .now) (c .before .before .before .before .args .n)
+the-next c =
     let b = c .before .before .before in
     let g = b .before .args in
-    toZ-ofZ (sub-behind c) ∙ rw (high (c .before .before), came w64 (c .product), c .product .ensures .0, via w16 (at (g .a .now) 2) (c .before .product-arg .given), newest (b .before)) (high-end _ _ _ _ _ _ (halves b))
+    toZ-ofZ (sub-next c) ∙ rw (high (c .before .before), came w64 (c .product), c .product .ensures .0, via w16 (at (g .a .now) 2) (c .before .product-arg .given), newest (b .before)) (high-end _ _ _ _ _ _ (halves b))
 
 -- the sum of the sample
 sub-rounded : tie.Need-sub-rounded
 sub-rounded c =
     let b = c .before .before .before .before .before in
     rw (low (c .before .before .before .before), came w64 (c .product2))
-    (small-fits (halves b .low -ℤ c .product2 .result) (half-less (halves b .low) (c .product2 .result) (low-small _ _ _ _ _ (light (b .before)) 1 _ (halves b)) (c .product2 .ensures .1)))
+    (small-fits (halves b .low -ℤ c .product2 .result) (half-less (halves b .low) (c .product2 .result) (low-small _ _ _ _ _ (bounded (b .before)) 1 _ (halves b)) (c .product2 .ensures .1)))
 
 sum : (c : tie.After-product2)
     → toZ w64 (ofZ w64 (toZ w64 (ofZ w64 (toZ w64 (ofZ w64 (c .before .before .before .before .before .both-sums .result)) -ℤ toZ w64 (ofZ w64 (toZ w64 (ofZ w64 (c .before .before .before .before .sar64 .result)) *ℤ pos 4294967296)))) -ℤ toZ w64 (ofZ w64 (c .product2 .result)))) ≡ whole-sum (c .before .before .before .before .before .before .args .a .now) (c .before .before .before .before .before .before .args .x) (c .before .before .before .before .before .before .args .y .now) (c .before .before .before .before .before .before .args .n)
@@ -95,8 +95,8 @@ returns c =
     let b = p .before .before .before .before .before in
     let s = b .before in
     let q = p .before .before in (
-      λ quiet. sampled (s .args .a .now) (s .args .x) (s .args .y .now) (s .args .n) (light s) (natAbs-le (s .args .x) (s .fits .x .sfits)) (past b) _ _ (sum p) (r .rounded .ensures quiet .0, via w16 _ (c .struct-told .given .0 .1) ∙ r .rounded .ensures quiet .1),
-      (behind q, (rw (toZ-ofZ (sub-behind q)) (behind-size q), past b)),
+      λ quiet. sampled (s .args .a .now) (s .args .x) (s .args .y .now) (s .args .n) (bounded s) (natAbs-le (s .args .x) (s .fits .x .sfits)) (past b) _ _ (sum p) (r .rounded .ensures quiet .0, via w16 _ (c .struct-told .given .0 .1) ∙ r .rounded .ensures quiet .1),
+      (the-next q, (rw (toZ-ofZ (sub-next q)) (next-size q), past b)),
     )
 
 pub first-of-two-spec : {M : Type 1} → statement M
@@ -110,7 +110,7 @@ first-of-two-spec =
     sub-low
     (λ c. omega arith)
     (λ c κs. search needs)
-    sub-behind
+    sub-next
     (λ c. omega arith)
     (λ c κs. search needs)
     sub-rounded

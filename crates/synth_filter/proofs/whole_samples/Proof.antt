@@ -13,7 +13,7 @@ use mir.Val.{toZ, ofZ}
 use mir.Facts.{toZ-ofZ}
 use Rattle.laws.specs.Lists.{at}
 use Rattle.laws.specs.Back.{via}
-use Rattle.synth_filter.specs.Fast.{weights, Sampled, Reached}
+use Rattle.synth_filter.specs.Fast.{size-sum, Sampled, Reached}
 use Rattle.synth_filter.specs.FastLaws.{reached-none}
 use Rattle.synth_filter.specs.Pairs.{small-fits, sampled-next, reached-turn}
 use Rattle.synth_filter.proofs.whole_samples.Statement.{statement}
@@ -32,23 +32,23 @@ loop-holds c =
     let k : start + 0 - 1 ≡ start - 1 = omega arith in
     (search needs, (reached-none _ _ _ _, rw k (via w16 _ (c .newest .given))))
 
-light : (c : tie.Else1 Inv-loop μ-loop) → weights (c .before .before .before .before .args .a .now) 10 ≤ 61439
-light c = omega (arith, c .before .weights .ensures, c .if1 .left)
+bounded : (c : tie.Else1 Inv-loop μ-loop) → size-sum (c .before .before .before .before .args .a .now) 10 ≤ 61439
+bounded c = omega (arith, c .before .size-sum .ensures, c .if1 .left)
 
 first-of-two-requires : tie.Need-first-of-two-requires Inv-loop μ-loop
 first-of-two-requires c κs =
     let l = c .before .before .before .before .before in
     let p = l .before .before in
-    (p .pairs .ensures, (light (p .before), (l .loop .inv .1 .1, search needs)))
+    (p .pairs .ensures, (bounded (p .before), (l .loop .inv .1 .1, search needs)))
 
 -- the sum of the second sample, read back
-behind : (c : tie.After-first-of-two Inv-loop μ-loop) → toZ w64 (ofZ w64 (c .first-of-two .result .behind)) ≡ c .first-of-two .result .behind
-behind c = toZ-ofZ (small-fits (c .first-of-two .result .behind) (c .first-of-two .ensures .1 .1 .0))
+kept-sum : (c : tie.After-first-of-two Inv-loop μ-loop) → toZ w64 (ofZ w64 (c .first-of-two .result .sum)) ≡ c .first-of-two .result .sum
+kept-sum c = toZ-ofZ (small-fits (c .first-of-two .result .sum) (c .first-of-two .ensures .1 .1 .0))
 
 second-of-two-requires : tie.Need-second-of-two-requires Inv-loop μ-loop
 second-of-two-requires c κs =
     let m = c .before .before .before .before in
-    rw (behind m) (m .first-of-two .ensures .1 .1 .0)
+    rw (kept-sum m) (m .first-of-two .ensures .1 .1 .0)
 
 -- the places of a turn, over plain numbers
 twice : (i : ℕ) → i + 1 + (i + 1) ≡ i + i + 1 + 1
@@ -60,8 +60,8 @@ beyond s i = omega arith
 last : (s i : ℕ) → s + (i + 1 + (i + 1)) - 1 ≡ s + (i + i) + 1
 last s i = omega arith
 
-behind-start : (s i : ℕ) → 10 ≤ s → 10 ≤ s + (i + i)
-behind-start s i h = omega arith
+next-start : (s i : ℕ) → 10 ≤ s → 10 ≤ s + (i + i)
+next-start s i h = omega arith
 
 one-more : (i n : ℕ) → i < n → i + 1 ≤ n
 one-more i n h = omega arith
@@ -103,7 +103,7 @@ next-sampled c =
     let u = m .before .before .first-of-two-arg2 .given in
     let v = c .before .before .second-of-two-arg .given in
     let q = m .first-of-two .ensures in
-    sampled-next (s .args .a .now) (toZ w16 (ofZ w16 x)) (l .loop .speech) (place l) _ (behind-start _ (l .loop .i) (l .before .before .before .before .before .speech-start .ensures .1 .1)) (light (l .before .before .before)) (rw (via w16 x u) (natAbs-le x u)) (q .1 .1 .1) (natAbs-le (at (written t) (place l)) v) _ _ _ _ (behind m) (q .1 .0) (via w16 (at (written t) (place l)) v) (c .before .second-of-two .ensures (c .if3 .left))
+    sampled-next (s .args .a .now) (toZ w16 (ofZ w16 x)) (l .loop .speech) (place l) _ (next-start _ (l .loop .i) (l .before .before .before .before .before .speech-start .ensures .1 .1)) (bounded (l .before .before .before)) (rw (via w16 x u) (natAbs-le x u)) (q .1 .1 .1) (natAbs-le (at (written t) (place l)) v) _ _ _ _ (kept-sum m) (q .1 .0) (via w16 (at (written t) (place l)) v) (c .before .second-of-two .ensures (c .if3 .left))
 
 returns-2 : tie.Need-returns-2 Inv-loop μ-loop
 returns-2 c =

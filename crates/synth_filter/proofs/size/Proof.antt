@@ -1,4 +1,4 @@
--- `synth_filter::weight` meets its contract, by the three cases.
+-- `synth_filter::size` meets its contract, by the three cases.
 use mathlib.Core.Path.{_≡_, ap, _∙_}
 use native.Mathlib.Omega.{arith}
 use borrow.Author.Needs.{needs}
@@ -9,9 +9,9 @@ use mir.Val.{toZ, ofZ}
 use mir.Facts.{toZ-ofZ, sfits-widen, sfits-lit, fits-natAbs}
 use Rattle.laws.specs.Range.{fits-sub, neg-part, abs-part}
 use Rattle.laws.specs.Back.{keep, nonneg-of}
-use Rattle.synth_filter.specs.FastLaws.{weight-heavy, weight-plain}
-use Rattle.synth_filter.proofs.weight.Statement.{statement}
-use Rattle.synth_filter.proofs.weight.Tie as tie
+use Rattle.synth_filter.specs.FastLaws.{size-large, size-plain}
+use Rattle.synth_filter.proofs.size.Statement.{statement}
+use Rattle.synth_filter.proofs.size.Tie as tie
 
 cast-result : tie.Need-cast-result
 cast-result c = sfits-widen tt (keep w16 tt (c .before .before .fits .c))
@@ -31,19 +31,19 @@ cast-result-3 c =
     (nonneg-of (abs-part (toZ-ofZ (c .before .before .fits .c)) (c .if2 .left)), fits-natAbs tt (keep w16 tt (c .before .before .fits .c)))
 
 returns : tie.Need-returns
-returns c = (weight-heavy (toZ-ofZ (c .before .fits .c)) (c .before .fits .c) (c .if1 .taken), search needs)
+returns c = (size-large (toZ-ofZ (c .before .fits .c)) (c .before .fits .c) (c .if1 .taken), search needs)
 
 returns-2 : tie.Need-returns-2
 returns-2 c =
     let s = c .before .before in
     let e = ap natAbs (size c) in
-    (e ∙ weight-plain (toZ-ofZ (s .fits .c)) (s .fits .c) (c .before .if1 .left), rw e (omega (arith, natAbs-le (s .args .c) (s .fits .c .sfits))))
+    (e ∙ size-plain (toZ-ofZ (s .fits .c)) (s .fits .c) (c .before .if1 .left), rw e (omega (arith, natAbs-le (s .args .c) (s .fits .c .sfits))))
 
 returns-3 : tie.Need-returns-3
 returns-3 c =
     let s = c .before .before in
     let e = ap natAbs (toZ-ofZ (s .fits .c)) in
-    (e ∙ weight-plain (toZ-ofZ (s .fits .c)) (s .fits .c) (c .before .if1 .left), rw e (omega (arith, natAbs-le (s .args .c) (s .fits .c .sfits))))
+    (e ∙ size-plain (toZ-ofZ (s .fits .c)) (s .fits .c) (c .before .if1 .left), rw e (omega (arith, natAbs-le (s .args .c) (s .fits .c .sfits))))
 
-pub weight-spec : {M : Type 1} → statement M
-weight-spec = tie.close (tie.spec cast-result sub-result cast-result-2 cast-result-3 returns returns-2 returns-3)
+pub size-spec : {M : Type 1} → statement M
+size-spec = tie.close (tie.spec cast-result sub-result cast-result-2 cast-result-3 returns returns-2 returns-3)
