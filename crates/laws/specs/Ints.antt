@@ -1,13 +1,13 @@
--- Sums and products of ℤ rearranged, and what a right shift takes out of a sum. Assumes nothing.
+-- Sums and products of ℤ rearranged, what a right shift takes out of a sum, and the order by its test. Assumes nothing.
 use Prim.Native.Nat.{ℕ, zero, suc, _-_, _/_, _≤_, _<_}
 use mathlib.Core.Path.{_≡_, refl, sym, ap, _∙_}
 use mathlib.Core.Bool.{Bool, true, false, cond}
 use native.Mathlib.Omega.{arith}
 use native.Mathlib.Numerals.{add-one}
-use native.Mathlib.Nat.{div-eq-of-lt, div-eq-sub-div, add-div-right}
-use lib.Dec.{ltb}
+use native.Mathlib.Nat.{div-eq-of-lt, div-eq-sub-div, add-div-right, le-of-lt}
+use lib.Dec.{T, ltb, le→leb, ltb→lt}
 use lib.IntN.{ℤ, pos, negsuc, negℤ, sucℤ, predℤ, _+ℤ_, _-ℤ_, _*ℤ_, pred-suc, +ℤ-sucℤ, +ℤ-predℤ, +ℤ-idl, +ℤ-idr, +ℤ-assoc, +ℤ-comm, +ℤ-invr, +ℤ-invl, -ℤ-+ℤ-cancel, sucℤ-*ℤ, predℤ-*ℤ, zero-*ℤ, *ℤ-comm}
-use lib.Signed.{shrZ}
+use lib.Signed.{shrZ, ltZ, leZ, _≤ℤ_, _<ℤ_, leZ-yes, ltZ-yes, ltZ-no, <ℤ-≤ℤ-trans, clashℤ}
 use borrow.Author.Tests.{ltb-true, ltb-false}
 
 -- by steps up and down from 0
@@ -106,3 +106,27 @@ pub shr-split : (a b q : ℤ) (m : ℕ) → 0 < m → shrZ ((a *ℤ pos m +ℤ b
 shr-split a b q m h =
     ap (λ (x : ℤ). shrZ x m) (mul-add (a *ℤ pos m) b q ∙ +ℤ-comm (a *ℤ pos m *ℤ q) (b *ℤ q) ∙ ap (λ (x : ℤ). b *ℤ q +ℤ x) (mul-swap a (pos m) q))
     ∙ shr-add (b *ℤ q) (a *ℤ q) m h ∙ +ℤ-comm (shrZ (b *ℤ q) m) (a *ℤ q)
+
+-- ---- the order, by its test
+
+pub less : (a b : ℤ) → ltZ a b ≡ true → a <ℤ b
+less a b e = ltZ-yes (rw e tt)
+
+pub not-less : (a b : ℤ) → ltZ a b ≡ false → b ≤ℤ a
+not-less a b e = ltZ-no (rw e tt)
+
+weak : (a b : ℤ) → T (ltZ a b) → T (leZ a b)
+weak (pos a) (pos b) h = le→leb a b (le-of-lt (ltb→lt a b h))
+weak (pos a) (negsuc b) h = h
+weak (negsuc a) (pos b) h = tt
+weak (negsuc a) (negsuc b) h = le→leb b a (le-of-lt (ltb→lt b a h))
+
+pub less-most : (a b : ℤ) → ltZ a b ≡ true → a ≤ℤ b
+less-most a b e = leZ-yes (weak a b (less a b e .lt))
+
+pub most-trans : {a b c : ℤ} → a ≤ℤ b → b ≤ℤ c → a ≤ℤ c
+most-trans {a} {b} {c} h k = go (ltZ c a) refl
+  where
+    go : (t : Bool) → ltZ c a ≡ t → a ≤ℤ c
+    go true e = clashℤ (<ℤ-≤ℤ-trans (less c a e) h) k
+    go false e = not-less c a e
