@@ -9,7 +9,7 @@ use lib.Dec.{ltb}
 use borrow.Author.Tests.{ltb-true, ltb-false}
 use lib.IntN.{ℤ, pos}
 use lib.ListN.{length, take, drop, getD, set, length-append, length-drop, drop-of-length-le, List·getD-append}
-use lib.Seq.{drop-cons, append-snoc, set-at, drop-length, take-suc, take-all, getD-drop, take-at, drop-at, getD-at}
+use lib.Seq.{drop-cons, append-snoc, set-at, drop-length, take-suc, take-all, getD-drop, take-at, drop-at, getD-at, getD-append-add, drop-append-add, drop-drop}
 
 -- the word at place k; 0 past the end
 abbrev pub at : List ℤ → ℕ → ℤ
@@ -39,6 +39,18 @@ at-tab f (suc n) k h = go (ltb k n) refl (at-tab f n k)
         let q : k ≡ n = omega (arith, ltb-false k n e) in
         rw q (getD-at (tab n f) (f n) [] (pos 0) n (length-tab n f))
 
+-- lists whose words are equal
+pub tab-ext : (n : ℕ) (f g : ℕ → ℤ) → ((k : ℕ) → f k ≡ g k) → tab n f ≡ tab n g
+unfolding tab
+tab-ext zero f g h = refl
+tab-ext (suc n) f g h = rw (tab-ext n f g h, h n)
+
+-- the first word in front of the others
+pub tab-cons : (n : ℕ) (f : ℕ → ℤ) → tab (suc n) f ≡ f 0 ∷ tab n (λ k. f (suc k))
+unfolding tab
+tab-cons zero f = refl
+tab-cons (suc n) f = ap (λ (l : List ℤ). l ++ (f (suc n) ∷ [])) (tab-cons n f)
+
 -- ---- a loop that fills a list: the first n words are those of tab n f
 
 unfoldable pub filled : (ℕ → ℤ) → ℕ → List ℤ → List ℤ
@@ -59,6 +71,14 @@ fill f n l out v h e g = rw (e, g) (filled-more f n l h)
 pub length-filled : (f : ℕ → ℤ) (n : ℕ) (l : List ℤ) → n ≤ length l → length (filled f n l) ≡ length l
 unfolding filled
 length-filled f n l h = simp (length-append, length-tab, length-drop) (omega arith)
+
+-- word n is the list's own while the first n are filled
+pub filled-at : (f : ℕ → ℤ) (n : ℕ) (l : List ℤ) → at (filled f n l) n ≡ at l n
+unfolding filled
+filled-at f n l =
+    let e : n ≡ length (tab n f) + 0 = omega (arith, length-tab n f) in
+    let z : n + 0 ≡ n = omega arith in
+    ap (λ (k : ℕ). getD (tab n f ++ drop n l) k (pos 0)) e ∙ getD-append-add (tab n f) (drop n l) 0 (pos 0) ∙ getD-drop n l 0 (pos 0) ∙ ap (λ (k : ℕ). getD l k (pos 0)) z
 
 filled-all : (f : ℕ → ℤ) (n : ℕ) (l : List ℤ) → length l ≡ n → filled f n l ≡ tab n f
 unfolding filled
@@ -112,6 +132,12 @@ map-tab g (suc n) f = rw (map-tab g n f, map-append)
 pub filled-map : (g : ℤ → ℤ) (l : List ℤ) (n : ℕ) (out : List ℤ) → out ≡ filled (λ k. g (at l k)) n l → n ≡ length l → out ≡ map g l
 filled-map g l n out e h =
     filled-end (λ k. g (at l k)) n (length l) l out e h refl ∙ map-tab g (length l) (at l) ∙ ap (map g) (tab-at l (length l) (omega arith) ∙ take-all (length l) l (omega arith))
+
+-- a list whose first n words were replaced, from behind the next word on
+pub drop-past : (p z : List ℤ) (n : ℕ) → length p ≡ n → drop (suc n) (p ++ drop n z) ≡ drop (suc n) z
+drop-past p z n e =
+    ap (λ (k : ℕ). drop k (p ++ drop n z)) (sym (add-one n) ∙ ap (λ (m : ℕ). m + 1) (sym e))
+    ∙ drop-append-add p (drop n z) 1 ∙ drop-drop 1 n z ∙ ap (λ (k : ℕ). drop k z) (add-one n)
 
 -- ---- a list that is built from the front, a part at a time
 

@@ -1,17 +1,18 @@
 -- Counted loops: a step for each number below n, and words written in order. Assumes nothing.
-use mathlib.Core.Path.{_≡_, refl, ap, sym, _∙_}
+use mathlib.Core.Path.{_≡_, refl, ap, sym, _∙_, subst}
 use mathlib.Core.Logic.{⊎-elim}
-use mathlib.Core.Bool.{Bool, true, false, cond}
+use mathlib.Core.Bool.{Bool, true, false, cond, _&&_}
 use mathlib.Core.List.{List, [], _∷_, _++_, append-assoc, append-nil}
 use Prim.Native.Nat.{ℕ, zero, suc, _+_, _≤_, _<_}
 use native.Mathlib.Numerals.{add-one}
 use native.Mathlib.Nat.{add-zero, add-suc, eq-or-lt-of-le}
 use native.Mathlib.Omega.{arith}
 use lib.IntN.{ℤ, pos}
-use lib.Dec.{eqb}
+use lib.Dec.{T, eqb}
 use borrow.Author.Tests.{eqb-true, eqb-false}
 use lib.ListN.{length, take, drop, set, length-set}
 use lib.Seq.{take-suc, take-suc-set, take-all, set-comm, set-set}
+use mir.Facts.{and-yes}
 use Rattle.laws.specs.Lists.{at}
 
 -- ---- a step for each number below n, in order, on any state: a sum is such a loop
@@ -36,6 +37,12 @@ steps-end f n m s₀ s g h = rw h at g
 -- a last step on the result
 pub steps-then {ℓ} : {A B : Type ℓ} (g : A → B) (f : ℕ → A → A) (n m : ℕ) (s₀ s : A) (r : B) → s ≡ steps f n s₀ → n ≡ m → r ≡ g s → r ≡ g (steps f m s₀)
 steps-then g f n m s₀ s r e h k = k ∙ ap g (steps-end f n m s₀ s e h)
+
+-- the first step in front of the others
+pub steps-cons {ℓ} : {A : Type ℓ} (f : ℕ → A → A) (n : ℕ) (s : A) → steps f (suc n) s ≡ steps (λ k. f (suc k)) n (f 0 s)
+unfolding steps
+steps-cons f zero s = refl
+steps-cons f (suc n) s = ap (f (suc n)) (steps-cons f n s)
 
 -- loops whose steps are equal
 pub steps-same {ℓ} : {A : Type ℓ} (f g : ℕ → A → A) (n : ℕ) (s : A) → ((j : ℕ) → j < n → (t : A) → f j t ≡ g j t) → steps f n s ≡ steps g n s
@@ -84,6 +91,23 @@ nowhere-each f (suc n) k e h = go (λ i b. nowhere-each f n k i b) (f n) refl e
     go : (nowhere f n ≡ true → k < n → f k ≡ false) → (t : Bool) → f n ≡ t → cond t false (nowhere f n) ≡ true → f k ≡ false
     go g true q i = cc
     go g false q i = last g q i (eqb k n) refl
+
+-- ---- a test of every number below n, computed
+
+unfoldable pub every : ℕ → (ℕ → Bool) → Bool
+every zero f = true
+every (suc n) f = f n && every n f
+
+every-by : (f : ℕ → Bool) (n k : ℕ) (b : Bool) → eqb k n ≡ b → T (f n) → (k < n → T (f k)) → k < suc n → T (f k)
+every-by f n k true e t g h = subst (λ (j : ℕ). T (f j)) (sym (eqb-true k n e)) t
+every-by f n k false e t g h = g (omega (arith, eqb-false k n e))
+
+pub every-at : (n : ℕ) (f : ℕ → Bool) → T (every n f) → (k : ℕ) → k < n → T (f k)
+unfolding every
+every-at zero f t k h = absurd (omega arith)
+every-at (suc n) f t k h =
+    let p = and-yes (f n) (every n f) t in
+    every-by f n k (eqb k n) refl (p .0) (every-at n f (p .1) k) h
 
 -- ---- n words written from place p on, in order; each may read all that is there before it is written
 

@@ -2,114 +2,21 @@
 use mathlib.Core.Path.{_≡_, refl, ap, sym, _∙_}
 use mathlib.Core.Bool.{Bool, true, false, cond}
 use mathlib.Core.List.{List, [], _∷_, _++_}
-use Prim.Native.Nat.{ℕ, zero, suc, _+_, _-_, _*_, _/_, _%_, _≤_, _<_}
+use Prim.Native.Nat.{ℕ, zero, suc, _+_, _*_, _/_, _%_, _≤_, _<_}
 use native.Mathlib.Omega.{arith}
 use native.Mathlib.Numerals.{add-one}
-use lib.Dec.{eqb, ltb}
+use lib.Dec.{eqb}
 use lib.ListN.{length, getD, take, drop, set, length-append, length-take, length-drop, take-append-drop}
-use lib.Seq.{getD-drop, take-suc, drop-cons, set-at, append-snoc, take-at, drop-at, drop-drop, take-all, take-length, getD-take}
-use borrow.Author.Tests.{ltb-true, ltb-false, lt-ltb, le-ltb, eq-eqb, ne-eqb, eqb-true}
-use Rattle.line.specs.Line.{digit, hex, opening, closing, form, text, size, value, bytes, same, is-form, is, payload, answer, took, line}
+use lib.Seq.{getD-drop, take-suc, drop-cons, set-at, append-snoc, take-at, drop-at, drop-drop, take-all, getD-take}
+use borrow.Author.Tests.{eq-eqb}
+use Rattle.laws.specs.Bytes.{same, same-self, same-true, unlike, both, same-parts}
+use Rattle.laws.specs.Digits.{digit, is-digit, value, value-lt, digit-is, value-digit, high, low}
+use Rattle.line.specs.Line.{hex, opening, closing, form, text, size, bytes, is-form, is, payload, answer, took, line}
 
--- ---- digits
-
--- a digit is 0-9 or a-f
-unfoldable pub is-digit : ℕ → Bool
-is-digit b = cond (ltb b 48) false (cond (ltb b 58) true (cond (ltb b 97) false (ltb b 103)))
-
+-- whether each byte is a digit
 unfoldable pub all-digits : List ℕ → Bool
 all-digits [] = true
 all-digits (b ∷ l) = cond (is-digit b) (all-digits l) false
-
-pub value-lt : (b : ℕ) → value b < 16
-unfolding value
-value-lt b = by (ltb b 48) (ltb b 58) (ltb b 97) (ltb b 103) refl refl refl refl
-  where
-    by : (p q r s : Bool) → ltb b 48 ≡ p → ltb b 58 ≡ q → ltb b 97 ≡ r → ltb b 103 ≡ s → cond p 0 (cond q (b - 48) (cond r 0 (cond s (b - 87) 0))) < 16
-    by true q r s e f g h = omega arith
-    by false true r s e f g h = let k : b < 58 = ltb-true _ _ f in omega arith
-    by false false true s e f g h = omega arith
-    by false false false true e f g h = let k : b < 103 = ltb-true _ _ h in omega arith
-    by false false false false e f g h = omega arith
-
--- a byte is a digit where it is the digit of its value
-digit-is : (b : ℕ) → eqb b (digit (value b)) ≡ is-digit b
-unfolding digit value is-digit
-digit-is b = by (ltb b 48) (ltb b 58) (ltb b 97) (ltb b 103) refl refl refl refl
-  where
-    by : (p q r s : Bool) → ltb b 48 ≡ p → ltb b 58 ≡ q → ltb b 97 ≡ r → ltb b 103 ≡ s
-        → eqb b (digit (cond p 0 (cond q (b - 48) (cond r 0 (cond s (b - 87) 0))))) ≡ cond p false (cond q true (cond r false s))
-    by true q r s e f g h = let k : b < 48 = ltb-true _ _ e in ne-eqb b 48 (λ z. omega arith)
-    by false true r s e f g h =
-        let k : 48 ≤ b = ltb-false _ _ e in
-        let j : b < 58 = ltb-true _ _ f in
-        rw (lt-ltb (b - 48) 10 (omega arith)) (eq-eqb b (48 + (b - 48)) (omega arith))
-    by false false true s e f g h = let k : 58 ≤ b = ltb-false _ _ f in ne-eqb b 48 (λ z. omega arith)
-    by false false false true e f g h =
-        let k : 97 ≤ b = ltb-false b 97 g in
-        rw (le-ltb (b - 87) 10 (omega arith)) (eq-eqb b (87 + (b - 87)) (omega arith))
-    by false false false false e f g h = let k : 103 ≤ b = ltb-false _ _ h in ne-eqb b 48 (λ z. omega arith)
-
-value-digit : (v : ℕ) → v < 16 → value (digit v) ≡ v
-unfolding digit value
-value-digit v k = by (ltb v 10) refl
-  where
-    by : (p : Bool) → ltb v 10 ≡ p → value (cond p (48 + v) (87 + v)) ≡ v
-    by true e = let j : v < 10 = ltb-true _ _ e in rw (le-ltb (48 + v) 48 (omega arith), lt-ltb (48 + v) 58 (omega arith)) (omega arith)
-    by false e =
-        let j : 10 ≤ v = ltb-false _ _ e in
-        rw (le-ltb (87 + v) 48 (omega arith), le-ltb (87 + v) 58 (omega arith), le-ltb (87 + v) 97 (omega arith), lt-ltb (87 + v) 103 (omega arith)) (omega arith)
-
-high : (x y : ℕ) → y < 16 → (16 * x + y) / 16 ≡ x
-high x y h = omega arith
-
-low : (x y : ℕ) → y < 16 → (16 * x + y) % 16 ≡ y
-low x y h = omega arith
-
--- ---- the test of two lists
-
-same-self : (l : List ℕ) → same l l ≡ true
-unfolding same
-same-self [] = refl
-same-self (a ∷ l) = rw (eq-eqb a a refl) (same-self l)
-
-pub same-true : (l m : List ℕ) → same l m ≡ true → l ≡ m
-unfolding same
-same-true [] [] e = refl
-same-true [] (b ∷ m) e = let z : _≡_ {A = Bool} false true = e in cc
-same-true (a ∷ l) [] e = let z : _≡_ {A = Bool} false true = e in cc
-same-true (a ∷ l) (b ∷ m) e = by (eqb a b) refl e (same-true l m)
-  where
-    by : (t : Bool) → eqb a b ≡ t → cond t (same l m) false ≡ true → (same l m ≡ true → l ≡ m) → a ∷ l ≡ b ∷ m
-    by true g e h = let p : l ≡ m = h e in let q : a ≡ b = eqb-true a b g in cc
-    by false g e h = let z : _≡_ {A = Bool} false true = e in cc
-
-not-same : (l m : List ℕ) → (l ≡ m → ⊥) → same l m ≡ false
-not-same l m n = by (same l m) refl
-  where
-    by : (t : Bool) → same l m ≡ t → t ≡ false
-    by true e = absurd (n (same-true l m e))
-    by false e = refl
-
--- they differ at a place
-differ : (l m : List ℕ) (i : ℕ) → (getD l i 0 ≡ getD m i 0 → ⊥) → same l m ≡ false
-differ l m i h = not-same l m (λ e. h (rw e))
-
--- they differ in length
-unlike : (l m : List ℕ) → (length l ≡ length m → ⊥) → same l m ≡ false
-unlike l m h = not-same l m (λ e. h (rw e))
-
-both : (p q r : Bool) → cond p (cond q r false) false ≡ cond (cond p q false) r false
-both true q r = refl
-both false q r = refl
-
--- a part at a time
-same-parts : (a b c d : List ℕ) → length a ≡ length c → same (a ++ b) (c ++ d) ≡ cond (same a c) (same b d) false
-unfolding same
-same-parts [] b [] d h = refl
-same-parts [] b (y ∷ c) d h = absurd (omega arith)
-same-parts (x ∷ a) b [] d h = absurd (omega arith)
-same-parts (x ∷ a) b (y ∷ c) d h = rw (same-parts a b c d (omega arith)) (both (eqb x y) (same a c) (same b d))
 
 -- ---- a line of a form, by its parts
 
@@ -181,20 +88,7 @@ other-length o l n h =
     let b : List ℕ = bytes n (drop (length o) l) in
     unlike l (form o b) (λ e. h (e ∙ length-form o b ∙ rw (length-bytes n (drop (length o) l)) (omega arith)))
 
--- ---- the loops: bytes compared, digits tested, and bytes written, from the front
-
-module _ (t p : List ℕ) (from i : ℕ) where
-  pub match-more : from + length p ≤ length t → i < length p → take i (drop from t) ≡ take i p → getD t (from + i) 0 ≡ getD p i 0
-      → take (i + 1) (drop from t) ≡ take (i + 1) p
-  match-more h k e g =
-      let d : i < length (drop from t) = simp length-drop (omega arith) in
-      rw (add-one, take-suc (drop from t) i 0 d, take-suc p i 0 k, e, getD-drop from t i 0, g)
-
-  pub match-not : i < length p → (getD t (from + i) 0 ≡ getD p i 0 → ⊥) → same (take (length p) (drop from t)) p ≡ false
-  match-not k n = differ (take (length p) (drop from t)) p i (λ e. n (sym (getD-take (length p) (drop from t) i 0 k ∙ getD-drop from t i 0) ∙ e))
-
-  pub match-end : take i (drop from t) ≡ take i p → i ≡ length p → same (take (length p) (drop from t)) p ≡ true
-  match-end e g = rw (← g, e, g, take-length) (same-self p)
+-- ---- the loops: digits tested, and bytes written, from the front
 
 all-parts : (l m : List ℕ) → all-digits (l ++ m) ≡ cond (all-digits l) (all-digits m) false
 unfolding all-digits

@@ -1,16 +1,14 @@
 -- The operation Line (01, "The call text and the program"): a line of the call text, without its line feed, to a frame's kind and payload.
 -- A text is the list of its bytes in ASCII.
-use mathlib.Core.Bool.{Bool, true, false, cond}
+use mathlib.Core.Bool.{Bool, cond}
 use mathlib.Core.List.{List, [], _∷_, _++_}
-use Prim.Native.Nat.{ℕ, zero, suc, _+_, _-_, _*_, _/_, _%_}
-use lib.Dec.{eqb, ltb}
+use Prim.Native.Nat.{ℕ, zero, suc, _+_, _*_, _/_, _%_}
+use lib.Dec.{eqb}
 use lib.ListN.{length, getD, drop}
+use Rattle.laws.specs.Bytes.{same}
+use Rattle.laws.specs.Digits.{digit, value}
 
 -- ---- the text of a frame
-
--- the digit of a value below 16: `0` to `9`, `a` to `f`
-unfoldable pub digit : ℕ → ℕ
-digit v = cond (ltb v 10) (48 + v) (87 + v)
 
 -- two digits for each byte, the higher first
 unfoldable pub hex : List ℕ → List ℕ
@@ -42,21 +40,10 @@ size kind = cond (eqb kind 0) 10 (cond (eqb kind 1) 2 0)
 
 -- ---- the text read
 
--- the value of a digit; 0 of any other byte
-unfoldable pub value : ℕ → ℕ
-value b = cond (ltb b 48) 0 (cond (ltb b 58) (b - 48) (cond (ltb b 97) 0 (cond (ltb b 103) (b - 87) 0)))
-
 -- n bytes from two digits each
 unfoldable pub bytes : ℕ → List ℕ → List ℕ
 bytes zero l = []
 bytes (suc n) l = (16 * value (getD l 0 0) + value (getD l 1 0)) ∷ bytes n (drop 2 l)
-
--- whether two lists are the same
-unfoldable pub same : List ℕ → List ℕ → Bool
-same [] [] = true
-same [] (b ∷ m) = false
-same (a ∷ l) [] = false
-same (a ∷ l) (b ∷ m) = cond (eqb a b) (same l m) false
 
 -- a line is of a form where it is the text of the bytes that are read from it
 unfoldable pub is-form : List ℕ → ℕ → List ℕ → Bool

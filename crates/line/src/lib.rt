@@ -3,8 +3,10 @@ ghost use mathlib.Core.Path.{_≡_};
 ghost use mathlib.Core.List.{_++_};
 ghost use Prim.Native.Nat.{_+_, _*_, _<_, _≤_};
 ghost use lib.ListN.{length, take, drop};
-ghost use Rattle.line.specs.Line.{value, bytes, same, is-form, Answer, line};
-ghost use Rattle.line.specs.Laws.{is-digit, all-digits};
+ghost use Rattle.laws.specs.Bytes.{same};
+ghost use Rattle.laws.specs.Digits.{is-digit, value};
+ghost use Rattle.line.specs.Line.{bytes, is-form, Answer, line};
+ghost use Rattle.line.specs.Laws.{all-digits};
 
 // An operation's number, 0 for success, and the kind of frame; 0 beside a refusal.
 pub struct Read {

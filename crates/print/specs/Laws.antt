@@ -1,6 +1,6 @@
 -- Laws of the printed forms: loops that write from the front, and a printed sample or count read back. Assumes nothing.
 use mathlib.Core.Path.{_≡_, refl, sym, _∙_}
-use mathlib.Core.Bool.{Bool, true, false, cond}
+use mathlib.Core.Bool.{Bool, true, false}
 use mathlib.Core.List.{List, [], _∷_, _++_, append-assoc, append-nil}
 use Prim.Native.Nat.{ℕ, zero, suc, _+_, _-_, _*_, _/_, _%_, _^_, _≤_, _<_}
 use native.Mathlib.Omega.{arith}
@@ -8,8 +8,8 @@ use native.Mathlib.Numerals.{add-one}
 use native.Mathlib.Nat.{add-zero, zero-add}
 use lib.Dec.{ltb}
 use lib.IntN.{ℤ, pos, negsuc}
-use lib.ListN.{length, getD, take, drop, set, length-set, length-append}
-use lib.Seq.{take-suc, take-suc-set, take-all, take-length, paste, paste-zero, paste-suc, take-paste, getD-append-seam, take-append-seam, drop-append-add, drop-drop}
+use lib.ListN.{length, getD, take, drop, set, length-append}
+use lib.Seq.{take-all, take-length, paste, paste-zero, take-append-seam, drop-append-add, drop-drop}
 use borrow.Author.Tests.{ltb-true, ltb-false, lt-ltb, le-ltb}
 use lib.Signed.{mag}
 use mir.Syntax.{w16}
@@ -18,30 +18,10 @@ use mir.Facts.{toZ-ofZ}
 use Rattle.basic_op.specs.Ops.{low16}
 use Rattle.basic_op.specs.Low.{low-lt}
 use Rattle.laws.specs.Lists.{at}
-use Rattle.print.specs.Print.{digit, word, words, pcm, digits, decimal, over}
-
--- a part's length by another name
-upto : (l p : List ℕ) (m n : ℕ) → m ≡ n → take m l ≡ p → take n l ≡ p
-upto l p m n h e = rw h at e
-
--- one byte more in front
-pub more : (l p : List ℕ) (n v : ℕ) → n < length l → take n l ≡ p → take (n + 1) (set l n v) ≡ p ++ (v ∷ [])
-more l p n v h e = rw (add-one, take-suc-set l n v h, e)
-
--- four bytes more
-pub four : (l : List ℕ) (n a b c d : ℕ) → n + 4 ≤ length l
-    → take (n + 4) (set (set (set (set l n a) (n + 1) b) (n + 2) c) (n + 3) d) ≡ take n l ++ (a ∷ b ∷ c ∷ d ∷ [])
-four l n a b c d h =
-    let l1 : List ℕ = set l n a in
-    let l2 : List ℕ = set l1 (n + 1) b in
-    let l3 : List ℕ = set l2 (n + 2) c in
-    let k1 : length l1 ≡ length l = length-set l n a in
-    let k2 : length l2 ≡ length l1 = length-set l1 (n + 1) b in
-    let k3 : length l3 ≡ length l2 = length-set l2 (n + 2) c in
-    let e1 : take (n + 1) l1 ≡ take n l ++ (a ∷ []) = more l (take n l) n a (omega arith) refl in
-    let e2 : take (n + 2) l2 ≡ (take n l ++ (a ∷ [])) ++ (b ∷ []) = upto l2 _ (n + 1 + 1) (n + 2) (omega arith) (more l1 _ (n + 1) b (omega arith) e1) in
-    let e3 : take (n + 3) l3 ≡ ((take n l ++ (a ∷ [])) ++ (b ∷ [])) ++ (c ∷ []) = upto l3 _ (n + 2 + 1) (n + 3) (omega arith) (more l2 _ (n + 2) c (omega arith) e2) in
-    upto (set l3 (n + 3) d) _ (n + 3 + 1) (n + 4) (omega arith) (more l3 _ (n + 3) d (omega arith) e3) ∙ simp append-assoc
+pub use Rattle.laws.specs.Bytes.{paste-more, paste-end}
+use Rattle.laws.specs.Bytes.{upto, paste-front, paste-snoc}
+use Rattle.laws.specs.Digits.{value, value-digit}
+use Rattle.print.specs.Print.{word, words, pcm, digits, decimal, over}
 
 -- one sample more
 pub word-more : (l : List ℤ) (out next p : List ℕ) (n w : ℕ) → take (5 + 4 * n) out ≡ p ++ words n l → w ≡ low16 (at l n)
@@ -57,17 +37,6 @@ word-none l out = sym (append-nil (take 5 out))
 pub words-end : (l : List ℤ) (out p : List ℕ) (n : ℕ) → take (5 + 4 * n) out ≡ p ++ words n l → n ≡ 80 → take 325 out ≡ p ++ words 80 l
 words-end l out p n e h = rw h at e
 
--- a part written byte by byte
-pub paste-more : (d s out : List ℕ) (at j : ℕ) → at + j < length d → j < length s → out ≡ paste d at s j → set out (at + j) (getD s j 0) ≡ paste d at s (j + 1)
-paste-more d s out at j h k e = rw e (paste-suc d at s j 0 h k ∙ rw add-one)
-
-pub paste-end : (d s out : List ℕ) (at j n : ℕ) → out ≡ paste d at s j → j ≡ n → out ≡ paste d at s n
-paste-end d s out at j n e h = rw h at e
-
--- and what then stands up to its end
-pub paste-front : (d s out : List ℕ) (at : ℕ) → at ≤ length d → out ≡ paste d at s (length s) → take (at + length s) out ≡ take at d ++ s
-paste-front d s out at h e = rw e (take-paste d at s (length s) h (omega arith) ∙ rw (take-length s))
-
 -- the three parts of `(pcm H)`
 pub pcm-whole : (l : List ℤ) (out v w z : List ℕ) → v ≡ paste out 0 (40 ∷ 112 ∷ 99 ∷ 109 ∷ 32 ∷ []) 5 → take 325 w ≡ take 5 v ++ words 80 l → z ≡ paste w 325 (41 ∷ 10 ∷ []) 2
     → 325 ≤ length w → length z ≡ 327 → z ≡ pcm l
@@ -77,21 +46,9 @@ pcm-whole l out v w z e f g k h =
 
 -- ---- a printed sample read back
 
--- the value of a digit
-unfoldable pub value : ℕ → ℕ
-value d = cond (ltb d 58) (d - 48) (d - 87)
-
 -- the number of four digits
 unfoldable pub number : List ℕ → ℕ
 number l = 4096 * value (getD l 0 0) + 256 * value (getD l 1 0) + 16 * value (getD l 2 0) + value (getD l 3 0)
-
-value-digit : (v : ℕ) → v < 16 → value (digit v) ≡ v
-unfolding digit value
-value-digit v k = by (ltb v 10) refl
-  where
-    by : (p : Bool) → ltb v 10 ≡ p → value (cond p (48 + v) (87 + v)) ≡ v
-    by true e = let j : v < 10 = ltb-true _ _ e in rw (lt-ltb (48 + v) 58 (omega arith)) (omega arith)
-    by false e = let j : 10 ≤ v = ltb-false _ _ e in rw (le-ltb (87 + v) 58 (omega arith)) (omega arith)
 
 pub number-word : (n : ℕ) → n < 65536 → number (word n) ≡ n
 unfolding number word
@@ -167,16 +124,6 @@ decimal-few k n h = few (suc n) k n h
 -- all digits but the last are nine at most
 pub but-last : (n : ℕ) → n < 2 ^ 32 → length (decimal (n / 10)) ≤ 9
 but-last n h = decimal-few 8 (n / 10) (omega arith)
-
--- one byte behind a part that was written
-paste-snoc : (d s out : List ℕ) (at v : ℕ) → at + length s < length d → out ≡ paste d at s (length s) → set out (at + length s) v ≡ paste d at (s ++ (v ∷ [])) (length (s ++ (v ∷ [])))
-paste-snoc d s out at v h e =
-    let w : List ℕ = s ++ (v ∷ []) in
-    let lw : length w ≡ length s + 1 = length-append s (v ∷ []) in
-    let g : getD w (length s) 0 ≡ v = getD-append-seam s v [] 0 in
-    let k : take (length s) w ≡ s = take-append-seam s (v ∷ []) in
-    let q : out ≡ paste d at w (length s) = e ∙ rw (k, take-length s) in
-    rw lw (rw g at (paste-more d w out at (length s) h (omega arith) q))
 
 -- what is written of a number, in each of the two cases: the place behind it, and the bytes
 pub written-one : (n from : ℕ) (out : List ℕ) → n < 10 → from < length out

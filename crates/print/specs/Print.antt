@@ -6,11 +6,8 @@ use lib.Dec.{ltb}
 use lib.IntN.{ℤ}
 use lib.ListN.{length, drop}
 use Rattle.basic_op.specs.Ops.{low16}
+use Rattle.laws.specs.Digits.{digit}
 use Rattle.laws.specs.Lists.{at}
-
--- the digit of a value below 16: `0` to `9`, `a` to `f`
-unfoldable pub digit : ℕ → ℕ
-digit v = cond (ltb v 10) (48 + v) (87 + v)
 
 -- four digits of a number of 16 bits, the highest first
 unfoldable pub word : ℕ → List ℕ

@@ -4,7 +4,8 @@ ghost use mathlib.Core.List.{_++_};
 ghost use Prim.Native.Nat.{_+_, _<_, _≤_};
 ghost use lib.ListN.{length, take};
 ghost use lib.Seq.{paste};
-ghost use Rattle.print.specs.Print.{digit, word, words, pcm, decimal, total, refused, over};
+ghost use Rattle.laws.specs.Digits.{digit};
+ghost use Rattle.print.specs.Print.{word, words, pcm, decimal, total, refused, over};
 
 // The digit of a value below 16.
 fn digit(v: u16) -> u8

@@ -1,33 +1,20 @@
 -- The rules of the tables by formula hold: one computed test over the entries of each, and one law that gives each entry its rule.
 -- Assumes nothing.
-use mathlib.Core.Path.{_≡_, refl, sym, subst}
+use mathlib.Core.Path.{refl, sym}
 use mathlib.Core.Bool.{Bool, true, false, _&&_}
-use mathlib.Core.Logic.{⊎-elim}
 use Prim.Native.Nat.{ℕ, zero, suc, _+_, _-_, _*_, _^_, _≤_, _<_}
 use native.Mathlib.Omega.{arith}
-use native.Mathlib.Nat.{eq-or-lt-of-le, le-of-suc-le-suc}
 use lib.Dec.{T, ltb, ltb→lt}
 use lib.IntN.{ℤ, pos, natAbs, _+ℤ_, _-ℤ_, _*ℤ_}
 use lib.Signed.{ltZ, leZ, _≤ℤ_, nonNeg, leZ-yes, ltZ-yes, pos-natAbs}
 use Rattle.laws.specs.Lists.{at}
+use Rattle.laws.specs.Loops.{every, every-at}
 use Rattle.tables.specs.Formula.{lsp-cosine, lsp-cosine-slope, pow2, gain-prediction-coefficients, lsp-quantizer-initial-memory}
 use Rattle.tables.specs.Rules.{Power, unit, cosines, chebyshev, u63, Near-root, Nearest, Cosine, Slope, Hundredths, coefficients, Frequency, Rules}
 
 both : (a b : Bool) → T (a && b) → T a × T b
 both true b t = (tt, t)
 both false b t = absurd t
-
--- the test passes at each number below n
-unfoldable every : ℕ → (ℕ → Bool) → Bool
-every zero f = true
-every (suc n) f = every n f && f n
-
-each : (n : ℕ) (f : ℕ → Bool) → T (every n f) → (i : ℕ) → i < n → T (f i)
-unfolding every
-each zero f t i h = absurd (omega arith)
-each (suc n) f t i h =
-    ⊎-elim (λ (e : i ≡ n). subst (λ (k : ℕ). T (f k)) (sym e) (both (every n f) (f n) t .1)) (λ (l : i < n). each n f (both (every n f) (f n) t .0) i l)
-    (eq-or-lt-of-le (le-of-suc-le-suc h))
 
 -- ---- a rule from its test
 
@@ -88,33 +75,33 @@ frequency i t p =
 
 pow2-entry : (i : ℕ) → i < 32 → Power i (at pow2 i)
 unfolding every power-test pow2
-pow2-entry i h = power i (at pow2 i) (each 32 (λ k. power-test k (at pow2 k)) tt i h)
+pow2-entry i h = power i (at pow2 i) (every-at 32 (λ k. power-test k (at pow2 k)) tt i h)
 
 cosines-root : (i : ℕ) → 1 ≤ i → i < 64 → Near-root (at cosines i)
 unfolding every root-test cosines chebyshev u63
 cosines-root zero l h = absurd (omega arith)
-cosines-root (suc i) l h = near-root (at cosines (suc i)) (each 63 (λ k. root-test (at cosines (suc k))) tt i (omega arith))
+cosines-root (suc i) l h = near-root (at cosines (suc i)) (every-at 63 (λ k. root-test (at cosines (suc k))) tt i (omega arith))
 
 cosines-fall : (i : ℕ) → i < 64 → (at cosines (i + 1) +ℤ pos 2) ≤ℤ at cosines i
 unfolding every cosines
-cosines-fall i h = leZ-yes (each 64 (λ k. leZ (at cosines (k + 1) +ℤ pos 2) (at cosines k)) tt i h)
+cosines-fall i h = leZ-yes (every-at 64 (λ k. leZ (at cosines (k + 1) +ℤ pos 2) (at cosines k)) tt i h)
 
 cosine-entry : (i : ℕ) → 1 ≤ i → i < 64 → Cosine (at cosines i) (at lsp-cosine i)
 unfolding every nearest-test cosine-test cosines lsp-cosine
 cosine-entry zero l h = absurd (omega arith)
-cosine-entry (suc i) l h = nearest _ _ _ (each 63 (λ k. cosine-test (at cosines (suc k)) (at lsp-cosine (suc k))) tt i (omega arith))
+cosine-entry (suc i) l h = nearest _ _ _ (every-at 63 (λ k. cosine-test (at cosines (suc k)) (at lsp-cosine (suc k))) tt i (omega arith))
 
 slope-entry : (i : ℕ) → i < 64 → Slope (at cosines i) (at cosines (i + 1)) (at lsp-cosine-slope i)
 unfolding every nearest-test slope-test cosines lsp-cosine-slope
-slope-entry i h = nearest _ _ _ (each 64 (λ k. slope-test (at cosines k) (at cosines (k + 1)) (at lsp-cosine-slope k)) tt i h)
+slope-entry i h = nearest _ _ _ (every-at 64 (λ k. slope-test (at cosines k) (at cosines (k + 1)) (at lsp-cosine-slope k)) tt i h)
 
 coefficient-entry : (i : ℕ) → i < 4 → Hundredths (at coefficients i) (at gain-prediction-coefficients i)
 unfolding every hundredths-test gain-prediction-coefficients
-coefficient-entry i h = hundredths _ _ (each 4 (λ k. hundredths-test (at coefficients k) (at gain-prediction-coefficients k)) tt i h)
+coefficient-entry i h = hundredths _ _ (every-at 4 (λ k. hundredths-test (at coefficients k) (at gain-prediction-coefficients k)) tt i h)
 
 memory-entry : (i : ℕ) → i < 10 → Frequency (i + 1) (at lsp-quantizer-initial-memory i)
 unfolding every frequency-test lsp-quantizer-initial-memory
-memory-entry i h = frequency _ _ (each 10 (λ k. frequency-test (k + 1) (at lsp-quantizer-initial-memory k)) tt i h)
+memory-entry i h = frequency _ _ (every-at 10 (λ k. frequency-test (k + 1) (at lsp-quantizer-initial-memory k)) tt i h)
 
 pub rules : Rules
 unfolding pow2 cosines lsp-cosine lsp-cosine-slope gain-prediction-coefficients lsp-quantizer-initial-memory

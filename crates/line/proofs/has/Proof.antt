@@ -4,7 +4,7 @@ use Prim.Native.Nat.{_-_, _≤_}
 use native.Mathlib.Omega.{arith}
 use lib.ListN.{length, take, drop}
 use borrow.Author.Needs.{needs}
-use Rattle.line.specs.Laws.{match-more, match-not, match-end}
+use Rattle.laws.specs.Bytes.{match-more, match-not, match-end}
 use Rattle.line.proofs.has.Statement.{statement}
 use Rattle.line.proofs.has.Tie as tie
 

@@ -1,6 +1,6 @@
 -- `line::is_digit` meets its contract: each test picks its case of the definition.
 use borrow.Author.Tests.{lt-ltb, le-ltb}
-use Rattle.line.specs.Laws.{is-digit}
+use Rattle.laws.specs.Digits.{is-digit}
 use Rattle.line.proofs.is_digit.Statement.{statement}
 use Rattle.line.proofs.is_digit.Tie as tie
 

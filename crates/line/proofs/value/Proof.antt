@@ -2,7 +2,7 @@
 use native.Mathlib.Omega.{arith}
 use borrow.Author.Needs.{needs}
 use borrow.Author.Tests.{lt-ltb, le-ltb}
-use Rattle.line.specs.Line.{value}
+use Rattle.laws.specs.Digits.{value}
 use Rattle.line.proofs.value.Statement.{statement}
 use Rattle.line.proofs.value.Tie as tie
 

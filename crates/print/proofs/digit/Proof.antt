@@ -1,7 +1,7 @@
 -- `print::digit` meets its contract: the test picks its case of the definition.
 use borrow.Author.Needs.{needs}
 use borrow.Author.Tests.{lt-ltb, le-ltb}
-use Rattle.print.specs.Print.{digit}
+use Rattle.laws.specs.Digits.{digit}
 use Rattle.print.proofs.digit.Statement.{statement}
 use Rattle.print.proofs.digit.Tie as tie
 

@@ -5,7 +5,7 @@ use native.Mathlib.Omega.{arith}
 use lib.ListN.{length, length-set}
 use lib.Seq.{paste, paste-zero}
 use borrow.Author.Needs.{needs}
-use Rattle.print.specs.Laws.{paste-more, paste-end}
+use Rattle.laws.specs.Bytes.{paste-more, paste-end}
 use Rattle.print.proofs.put.Statement.{statement}
 use Rattle.print.proofs.put.Tie as tie
 

@@ -4,7 +4,7 @@ use native.Mathlib.Omega.{arith}
 use lib.ListN.{length-set}
 use borrow.Author.Needs.{needs}
 use Rattle.print.specs.Print.{word}
-use Rattle.print.specs.Laws.{four}
+use Rattle.laws.specs.Bytes.{four}
 use Rattle.print.proofs.word.Statement.{statement}
 use Rattle.print.proofs.word.Tie as tie
 
