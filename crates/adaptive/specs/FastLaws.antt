@@ -5,20 +5,18 @@ use mathlib.Core.Path.{_≡_, refl, sym, ap, _∙_}
 use mathlib.Core.Bool.{Bool, true, false}
 use mathlib.Core.List.{List}
 use native.Mathlib.Omega.{arith}
-use native.Mathlib.Nat.{add-comm, add-assoc, add-zero, add-suc, mul-le-mul}
+use native.Mathlib.Nat.{add-comm, add-assoc, mul-le-mul}
 use native.Mathlib.Numerals.{add-one}
 use lib.Dec.{eqb, ltb}
 use lib.IntN.{ℤ, pos, natAbs, _+ℤ_, _*ℤ_, +ℤ-assoc, +ℤ-comm, +ℤ-idr, *ℤ-zero}
 use lib.Signed.{mag, shrZ, natAbs-le}
-use lib.ListN.{length, set, replicate}
-use lib.Seq.{getD-set-same, getD-set-other}
-use mathlib.Core.Logic.{_≢_}
+use lib.ListN.{set, replicate}
 use mir.Syntax.{w32}
 use mir.Val.{SFits}
 use borrow.Author.Tests.{lt-ltb, le-ltb, ltb-true, ltb-false, eqb-true, eqb-false}
-use Rattle.laws.specs.Lists.{at, at-set}
-use Rattle.laws.specs.Loops.{steps, steps-same, steps-still, run, length-run}
-use Rattle.laws.specs.Sums.{outward, abs-add, abs-sum, sum-grows}
+use Rattle.laws.specs.Lists.{at, at-set, at-zeros}
+use Rattle.laws.specs.Loops.{steps, steps-same, steps-still, steps-parts, run, run-in, run-out}
+use Rattle.laws.specs.Sums.{outward, abs-add, abs-sum, sum-grows, sum-part}
 use Rattle.laws.specs.Range.{abs-mul, mag-abs}
 use Rattle.basic_op.specs.Ops.{l-mac, round}
 use Rattle.basic_op.specs.Laws.{mac-twice, round-twice}
@@ -62,18 +60,6 @@ module _ (c u : List ℤ) (p n : ℕ) (s v : ℤ) (e : s ≡ dot c u p n) (g : v
 
   pub fits-next : Sums c u p → n + 1 ≤ 32 → SFits w32 (s +ℤ v)
   fits-next h k = record { sfits = rw dot-next (h (n + 1) k) }
-
--- steps in two parts
-steps-parts : {A : Type 0} (f : ℕ → A → A) (m n : ℕ) (s : A) → steps f (m + n) s ≡ steps (λ j. f (m + j)) n (steps f m s)
-unfolding steps
-steps-parts f m zero s = rw add-zero
-steps-parts f m (suc n) s = rw add-suc (ap (f (m + n)) (steps-parts f m n s))
-
--- a part of a sum
-sum-part : (w : ℕ → ℕ) (m n : ℕ) → steps (λ j s. s + w (m + j)) n 0 ≤ steps (λ j s. s + w j) (m + n) 0
-unfolding steps
-sum-part w m zero = zero-le
-sum-part w m (suc n) = rw add-suc (omega (arith, sum-part w m n))
 
 -- twenty taps from o on among zeros; the first of them weighs the word at p
 module _ (c u : List ℤ) (p o : ℕ) (few : o ≤ 12) (room : o ≤ p) (bounded : size-sum c 32 ≤ 65534) (padded : Padded c o) (small : Small u p 20 16384) where
@@ -198,28 +184,6 @@ tap-before phase i h = rw (lt-ltb (9 - i) 10 (omega arith)) (omega arith)
 tap-after : (phase i : ℕ) → tap phase (10 + i) ≡ 3 - phase + 3 * i
 unfolding tap
 tap-after phase i = rw (le-ltb (10 + i) 10 (omega arith)) (omega arith)
-
--- words written from p on: one of them
-run-in : (g : ℕ → ℤ) (p n : ℕ) (l : List ℤ) (j : ℕ) → p + n ≤ length l → j < n → at (run (λ k e. g k) p n l) (p + j) ≡ g j
-unfolding run
-run-in g p zero l j h k = absurd (omega arith)
-run-in g p (suc n) l j h k = by (eqb j n) refl (run-in g p n l j (omega arith))
-  where
-    by : (b : Bool) → eqb j n ≡ b → (j < n → at (run (λ k e. g k) p n l) (p + j) ≡ g j) → at (set (run (λ k e. g k) p n l) (p + n) (g n)) (p + j) ≡ g j
-    by true e r = rw (eqb-true j n e) (getD-set-same (run (λ k e. g k) p n l) (p + n) (g n) (pos 0) (omega (arith, length-run (λ k e. g k) p n l)))
-    by false e r =
-        getD-set-other (run (λ k e. g k) p n l) (p + n) (p + j) (g n) (pos 0) (λ q. omega (arith, eqb-false j n e)) ∙ r (omega (arith, eqb-false j n e))
-
--- a word that is none of them
-run-out : (f : ℕ → List ℤ → ℤ) (p n : ℕ) (l : List ℤ) (i : ℕ) → ((j : ℕ) → j < n → i ≢ p + j) → at (run f p n l) i ≡ at l i
-unfolding run
-run-out f p zero l i h = refl
-run-out f p (suc n) l i h = getD-set-other (run f p n l) (p + n) i (f n (run f p n l)) (pos 0) (h n (omega arith)) ∙ run-out f p n l i (λ j k. h j (omega arith))
-
-at-zeros : (n i : ℕ) → at (replicate n (pos 0)) i ≡ pos 0
-at-zeros zero i = refl
-at-zeros (suc n) zero = refl
-at-zeros (suc n) (suc i) = at-zeros n i
 
 at-taps : (b30 : List ℤ) (phase o j : ℕ) → o ≤ 12 → j < 20 → at (taps b30 phase o) (o + j) ≡ at b30 (tap phase j)
 unfolding taps

@@ -14,8 +14,6 @@ use mir.Val.{SFits}
 use mir.Facts.{and-yes, yes-and, leb-yes, yes-leb, eqb-yes, sfits-lit}
 use Rattle.laws.specs.Loops.{run}
 use Rattle.adaptive.specs.declared.Delay.{Delay}
-use Rattle.adaptive.specs.declared.PitchState.{PitchState}
-use Rattle.adaptive.specs.declared.Tracked.{Tracked}
 use Rattle.basic_op.specs.Ops.{lesser}
 use Rattle.adaptive.specs.Adaptive.{decode-t1, decode-t2, t-min, carried, limited, nat, increased, first, second, erased, phase, lag, interpolate, adaptive-vector}
 

@@ -1,11 +1,8 @@
 -- Values of the definitions, computed (01, "Values to prove").
 use mathlib.Core.Path.{_≡_, refl}
-use mathlib.Core.Bool.{Bool, true}
-use lib.IntN.{ℤ, pos, negsuc}
+use mathlib.Core.Bool.{true}
+use lib.IntN.{pos, negsuc}
 use Rattle.laws.specs.Loops.{steps}
-use Rattle.adaptive.specs.declared.Delay.{Delay}
-use Rattle.adaptive.specs.declared.PitchState.{PitchState}
-use Rattle.adaptive.specs.declared.Tracked.{Tracked}
 use Rattle.basic_op.specs.Ops.{lesser}
 use Rattle.adaptive.specs.Adaptive.{nat, parity-ok, decode-t1, decode-t2, increased, erased}
 

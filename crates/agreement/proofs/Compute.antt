@@ -18,7 +18,6 @@ use Rattle.state.specs.State as state
 use Rattle.parameters.specs.Parameters as parameters
 use Rattle.decoder.specs.Frame as decoder
 use Rattle.decoder.specs.Call as call
-use Rattle.agreement.specs.Demand as demand
 use Rattle.agreement.specs.Run as runs
 
 unfoldable pub Operators : Type 0

@@ -1,19 +1,17 @@
 -- From an accepted block the calls give what the stages' run of specs/Run.antt gives, and so from the fresh state: demand 2.
 use Prim.Native.Nat.{ℕ, zero, suc}
 use mathlib.Core.Path.{_≡_, refl, sym, ap, ap₂, _∙_}
-use mathlib.Core.Bool.{Bool, true, false, cond}
+use mathlib.Core.Bool.{Bool, true, false}
 use mathlib.Core.List.{List, [], _∷_, map}
 use native.Mathlib.Omega.{arith}
 use lib.Dec.{T, eqb, eqb·suc-zero}
 use lib.IntN.{ℤ, pos}
 use lib.ListN.{length, replicate, length-replicate}
 use mir.Facts.{and-yes}
-use Rattle.tables.specs.Layout.{table-check}
-use Rattle.plc.specs.Kinds.{decide}
 use Rattle.state.specs.State.{read-params, read, write, fresh, accepted, accepted-state}
 use Rattle.state.specs.Laws.{Sized, read-sized, read-write, fresh-sized, fresh-accepted, accepted-write, check-of-accepted}
 use Rattle.decoder.specs.Frame.{decode}
-use Rattle.decoder.specs.Call.{input-check, refusal, answer, frame}
+use Rattle.decoder.specs.Call.{refusal, answer, frame}
 use Rattle.agreement.specs.Demand.{Call, made, number, block, output, answers, values, frames, AcceptedAfter, AnyOutput}
 use Rattle.agreement.specs.Run.{code, given, said, run, Demand2}
 use Rattle.agreement.proofs.Lengths.{sized-after}

@@ -1,20 +1,18 @@
 -- Laws of `sat`, `by-sign` and `rounded`, by the tests that the code makes. Assumes nothing.
 use Prim.Native.Nat.{ℕ, zero, suc, _+_, _-_, _*_, _^_, _≤_, _<_, zero-le}
 use mathlib.Core.Path.{_≡_, refl, sym, ap, _∙_, subst}
-use mathlib.Core.Bool.{Bool, true, false, cond, not}
+use mathlib.Core.Bool.{Bool, true, false, cond}
 use native.Mathlib.Omega.{arith}
-use native.Mathlib.Nat.{suc-mul, zero-mul, le-refl, le-trans, lt-of-lt-of-le, lt-of-le-of-lt}
-use lib.Dec.{T, leb, ltb, leb→le, ltb→lt}
-use lib.IntN.{ℤ, pos, negsuc, negℤ, natAbs, _+ℤ_, _-ℤ_, _*ℤ_, +ℤ-assoc, +ℤ-comm}
-use lib.Signed.{mag, ltZ, leZ, shrZ, mag-shr}
-use borrow.Author.Needs.{needs}
+use native.Mathlib.Nat.{suc-mul, zero-mul, le-refl, lt-of-lt-of-le, lt-of-le-of-lt}
+use lib.Dec.{T, ltb, ltb→lt}
+use lib.IntN.{ℤ, pos, negsuc, negℤ, natAbs, _+ℤ_, _*ℤ_, +ℤ-assoc, +ℤ-comm}
+use lib.Signed.{mag, ltZ, shrZ}
 use borrow.Author.Tests.{lt-ltb, le-ltb, ltb-true, ltb-false, ne-eqb}
-use mir.Syntax.{Width, w16, w32, w64}
+use mir.Syntax.{Width}
 use mir.Val.{SFits, hbits}
-use mir.Facts.{sfits-widen, sfits-lit}
-use Rattle.basic_op.specs.Ops.{sat, sat16, sat32, add, sub, l-mult, l-add, l-sub, l-mac, l-msu, mult, extract-h, round, by-sign, rounded}
+use Rattle.basic_op.specs.Ops.{sat, sat32, l-mult, l-add, l-mac, extract-h, round, by-sign, rounded}
 use Rattle.laws.specs.Sums.{abs-add}
-use Rattle.laws.specs.Range.{mag-abs, within, fits-add, fits-sub, fits-mul, fits-shr}
+use Rattle.laws.specs.Range.{mag-abs, within}
 
 -- ---- `sat`, by the code's tests on y, which is z read back from its bits
 

@@ -1,5 +1,5 @@
 -- The base-2 logarithm by the code's steps: of a positive value, its norm and the value shifted by it. Assumes nothing.
-use Prim.Native.Nat.{ℕ, zero, suc, _*_, _^_, _≤_, _<_}
+use Prim.Native.Nat.{ℕ, zero, suc, _^_, _≤_, _<_}
 use mathlib.Core.Path.{_≡_, refl, subst}
 use mathlib.Core.Bool.{Bool, true, false}
 use mathlib.Core.List.{List}
@@ -8,11 +8,10 @@ use native.Mathlib.Nat.{lt-of-lt-of-le}
 use lib.Dec.{T, lit≤}
 use lib.IntN.{ℤ, pos, negsuc, _-ℤ_}
 use lib.Signed.{mag, ltZ}
-use borrow.Author.Tests.{ltb-true, ltb-false}
+use borrow.Author.Tests.{ltb-true}
 use mir.Syntax.{w16}
 use mir.Val.{SFits}
 use Rattle.laws.specs.Range.{mag-sub}
-use Rattle.basic_op.specs.declared.Log2.{Log2}
 use Rattle.basic_op.specs.Ops.{l-shl, by-sign, norm-l}
 use Rattle.basic_op.specs.Laws.{sat-id}
 use Rattle.basic_op.specs.Norm.{norm-few, norm-low, norm-high}

@@ -1,6 +1,6 @@
 -- The frame call (01, "Operations and their refusals", Frame): a table block, a state block, a kind, a payload and room for the samples.
 use Prim.Native.Nat.{ℕ}
-use mathlib.Core.Bool.{Bool, cond}
+use mathlib.Core.Bool.{cond}
 use mathlib.Core.List.{List}
 use lib.Dec.{eqb, ltb}
 use lib.IntN.{ℤ}

@@ -2,10 +2,8 @@
 -- their attenuation in an erased frame (clauses 4.4.2 and 4.4.3), and the factor of pitch sharpening (clause 3.8). `t` is the table block.
 -- The clauses leave the fixed-point steps open: the scalings, and the order of the operations, are the Rust's.
 use Prim.Native.Nat.{ℕ, _%_}
-use mathlib.Core.Bool.{cond}
 use mathlib.Core.List.{List, [], _∷_}
 use lib.IntN.{ℤ, pos, negsuc}
-use lib.Signed.{ltZ}
 use Rattle.laws.specs.Lists.{at}
 use Rattle.laws.specs.Loops.{steps}
 use Rattle.tables.specs.declared.Scalar.the-variants.{PitchSharpeningMax, GainPredictionLogScale, GainPredictionMeanEnergyMantissa, GainPredictionMeanEnergyMultiplier, GainPredictionDbToLog2, GainUpdateLog2ToDb, ErasurePitchGainLimit, ErasureFixedGainAttenuation}

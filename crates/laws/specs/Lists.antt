@@ -8,7 +8,7 @@ use mathlib.Core.Bool.{Bool, true, false}
 use lib.Dec.{ltb}
 use borrow.Author.Tests.{ltb-true, ltb-false}
 use lib.IntN.{ℤ, pos}
-use lib.ListN.{length, take, drop, getD, set, length-append, length-drop, drop-of-length-le, List·getD-append}
+use lib.ListN.{length, take, drop, getD, set, replicate, length-append, length-drop, drop-of-length-le, List·getD-append}
 use lib.Seq.{drop-cons, append-snoc, set-at, drop-length, take-suc, take-all, getD-drop, take-at, drop-at, getD-at, getD-append-add, drop-append-add, drop-drop}
 
 -- the word at place k; 0 past the end
@@ -118,11 +118,6 @@ halves a r b m n h k = rw (take-at a r m h, drop-at a r m h, drop-of-length-le r
 
 -- ---- a list whose words are changed one by one, each to g of it
 
--- the word that a turn reads is still the one of before
-pub filled-next : (f : ℕ → ℤ) (n : ℕ) (l out : List ℤ) → n < length l → out ≡ filled f n l → at out n ≡ at l n
-unfolding filled
-filled-next f n l out h e = rw (e, drop-cons l n (pos 0) h) (getD-at (tab n f) (at l n) (drop (suc n) l) (pos 0) n (length-tab n f))
-
 map-tab : (g : ℤ → ℤ) (n : ℕ) (f : ℕ → ℤ) → tab n (λ k. g (f k)) ≡ map g (tab n f)
 unfolding tab
 map-tab g zero f = refl
@@ -150,6 +145,12 @@ pub whole : (p q : List ℤ) (n : ℕ) → take n q ≡ p → length q ≡ n →
 whole p q n e h = sym (take-all n q (omega arith)) ∙ e
 
 -- ---- a word stored
+
+-- zeros
+pub at-zeros : (n i : ℕ) → at (replicate n (pos 0)) i ≡ pos 0
+at-zeros zero i = refl
+at-zeros (suc n) zero = refl
+at-zeros (suc n) (suc i) = at-zeros n i
 
 -- what holds of the word stored, and held of word k, holds of word k afterwards
 pub at-set : (P : ℤ → Type 0) (l : List ℤ) (i k : ℕ) (v : ℤ) → P v → P (at l k) → P (at (set l i v) k)

@@ -4,7 +4,7 @@ use mathlib.Core.Path.{_≡_, refl, sym, ap, _∙_}
 use mathlib.Core.Bool.{Bool, true, false, cond}
 use mathlib.Core.Logic.{⊎-elim}
 use native.Mathlib.Omega.{arith}
-use native.Mathlib.Nat.{zero-add, suc-add, le-refl, le-trans, le-of-eq, eq-or-lt-of-le}
+use native.Mathlib.Nat.{zero-add, suc-add, add-suc, le-refl, le-trans, le-of-eq, eq-or-lt-of-le}
 use lib.Dec.{ltb}
 use lib.IntN.{ℤ, pos, negsuc, negℤ, natAbs, subℕ, _+ℤ_, _-ℤ_, -ℤ-+ℤ-cancel}
 use borrow.Author.Tests.{ltb-true}
@@ -81,6 +81,12 @@ pub sum-grows : (w : ℕ → ℕ) (n k : ℕ) → steps (λ j s. s + w j) n 0 �
 unfolding steps
 sum-grows w n zero = rw zero-add (le-refl (steps (λ j s. s + w j) n 0))
 sum-grows w n (suc k) = rw suc-add (omega (arith, sum-grows w n k))
+
+-- a part of a sum
+pub sum-part : (w : ℕ → ℕ) (m n : ℕ) → steps (λ j s. s + w (m + j)) n 0 ≤ steps (λ j s. s + w j) (m + n) 0
+unfolding steps
+sum-part w m zero = zero-le
+sum-part w m (suc n) = rw add-suc (omega (arith, sum-part w m n))
 
 -- ---- terms taken off one by one
 

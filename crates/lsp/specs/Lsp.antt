@@ -2,7 +2,7 @@
 -- 3.2.4 and 3.2.6 (cosine conversion), 4.1.1 and 4.4.1 (erased frames). Frequencies are in radians, Q13, LSP
 -- in Q15. A row is the quantizer output l^ of a frame; the memory is the last four rows of ten, the newest first.
 use mathlib.Core.Bool.{cond}
-use mathlib.Core.List.{List, [], _∷_}
+use mathlib.Core.List.{List, _∷_}
 use Prim.Native.Nat.{ℕ, _+_, _/_, _%_}
 use lib.IntN.{ℤ, pos}
 use lib.Signed.{ltZ, shrZ}

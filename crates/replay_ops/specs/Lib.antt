@@ -6,7 +6,6 @@ use native.Mathlib.Omega.{arith}
 use lib.Dec.{ltb}
 use lib.IntN.{ℤ, pos, negsuc, negℤ, _+ℤ_, _*ℤ_}
 use lib.Signed.{mag}
-use borrow.Author.Tests.{ltb-true, ltb-false}
 
 below : (k low : ℕ) → k ≤ 2 ^ 63 → low < 2 ^ 32 → mag (negℤ (pos k) +ℤ pos low) < 2 ^ 63
 below zero low h l = omega arith

@@ -2,7 +2,7 @@
 -- Each definition names a part by its place in the block; a word past the end is 0. The comments say what G.729 holds there:
 -- nothing is assumed of the words.
 use mathlib.Core.Path.{_≡_}
-use mathlib.Core.Bool.{Bool, cond, _||_}
+use mathlib.Core.Bool.{cond, _||_}
 use mathlib.Core.List.{List, [], _∷_}
 use Prim.Native.Nat.{ℕ, _+_, _*_, _≤_}
 use native.Mathlib.Omega.{arith}

@@ -1,5 +1,5 @@
 -- `adaptive::rest` meets its contract: before turn n it has gone from the first `done` words to the first n.
-use mathlib.Core.Path.{_≡_, _∙_}
+use mathlib.Core.Path.{_∙_}
 use Prim.Native.Nat.{_+_, _-_, _≤_}
 use native.Mathlib.Omega.{arith}
 use borrow.Author.Needs.{needs}

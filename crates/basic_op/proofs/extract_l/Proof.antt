@@ -1,11 +1,7 @@
 -- `basic_op::extract_l` meets its contract. Assumes nothing.
-use mathlib.Core.Path.{_∙_, ap, sym}
-use native.Mathlib.Omega.{arith}
-use borrow.Author.Needs.{needs}
-use mir.Syntax.{w16, w32}
+use mathlib.Core.Path.{_∙_}
 use mir.Facts.{toZ-ofZ, sfits-widen}
 use Rattle.basic_op.specs.Low.{low-and, low-neg, low-pos, fits-extract-l}
-use Rattle.laws.specs.Back.{keep}
 use Rattle.basic_op.proofs.extract_l.Statement.{statement}
 use Rattle.basic_op.proofs.extract_l.Tie as tie
 

@@ -1,7 +1,4 @@
 -- `basic_op::l_deposit_h` meets its contract. Assumes nothing.
-use mathlib.Core.Path.{_∙_, ap, sym}
-use native.Mathlib.Omega.{arith}
-use borrow.Author.Needs.{needs}
 use lib.Dec.{lit<, lit≤}
 use mir.Syntax.{w16, w32}
 use mir.Facts.{toZ-ofZ, sfits-widen}

@@ -1,8 +1,7 @@
 -- `basic_op::l_shl` meets its contract. Assumes nothing.
-use mathlib.Core.Path.{_∙_, ap, sym}
-use native.Mathlib.Omega.{arith}
+use mathlib.Core.Path.{_∙_}
 use borrow.Author.Needs.{needs}
-use mir.Syntax.{w16, w32}
+use mir.Syntax.{w32}
 use mir.Facts.{toZ-ofZ}
 use Rattle.basic_op.specs.Ops.{l-shl}
 use Rattle.basic_op.specs.Laws.{by-pos, by-neg}

@@ -1,5 +1,4 @@
 -- `basic_op::l_shl_by` meets its contract. Assumes nothing.
-use mathlib.Core.Path.{_∙_, ap, sym}
 use native.Mathlib.Omega.{arith}
 use borrow.Author.Needs.{needs}
 use lib.Dec.{lit<, lit≤}

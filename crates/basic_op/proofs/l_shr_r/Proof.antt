@@ -1,6 +1,5 @@
 -- `basic_op::l_shr_r` meets its contract. Assumes nothing.
-use mathlib.Core.Path.{_∙_, ap, sym}
-use native.Mathlib.Omega.{arith}
+use mathlib.Core.Path.{_∙_, ap}
 use borrow.Author.Needs.{needs}
 use lib.IntN.{pos, natAbs}
 use mir.Syntax.{w16, w32, w64}

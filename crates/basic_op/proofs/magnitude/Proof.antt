@@ -1,9 +1,6 @@
 -- `basic_op::magnitude` meets its contract. Assumes nothing.
-use mathlib.Core.Path.{_∙_, ap, sym}
-use native.Mathlib.Omega.{arith}
-use borrow.Author.Needs.{needs}
+use mathlib.Core.Path.{_∙_, ap}
 use lib.IntN.{natAbs}
-use lib.Signed.{mag}
 use mir.Syntax.{w32}
 use mir.Facts.{toZ-ofZ, fits-natAbs}
 use Rattle.laws.specs.Range.{comp-part, mag-part}

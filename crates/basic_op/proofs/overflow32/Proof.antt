@@ -1,7 +1,4 @@
 -- `basic_op::overflow32` meets its contract. Assumes nothing.
-use mathlib.Core.Path.{_∙_, ap, sym}
-use native.Mathlib.Omega.{arith}
-use borrow.Author.Needs.{needs}
 use mir.Facts.{toZ-ofZ}
 use Rattle.basic_op.specs.Ops.{overflow}
 use Rattle.basic_op.proofs.overflow32.Statement.{statement}

@@ -1,6 +1,4 @@
 -- `basic_op::pow64` meets its contract. Assumes nothing.
-use mathlib.Core.Path.{_∙_, ap, sym}
-use native.Mathlib.Omega.{arith}
 use borrow.Author.Needs.{needs}
 use mir.Syntax.{w64}
 use Rattle.laws.specs.Range.{one-shl}

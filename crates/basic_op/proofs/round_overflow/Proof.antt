@@ -1,6 +1,4 @@
 -- `basic_op::round_overflow` meets its contract. Assumes nothing.
-use mathlib.Core.Path.{_∙_, ap, sym}
-use native.Mathlib.Omega.{arith}
 use borrow.Author.Needs.{needs}
 use lib.IntN.{pos}
 use mir.Syntax.{w32, w64}

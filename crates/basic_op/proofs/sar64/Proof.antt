@@ -3,8 +3,7 @@ use mathlib.Core.Path.{_∙_}
 use native.Mathlib.Omega.{arith}
 use borrow.Author.Needs.{needs}
 use mir.Syntax.{w64}
-use mir.Facts.{toZ-ofZ}
-use Rattle.laws.specs.Range.{fits-shr, shr-far}
+use Rattle.laws.specs.Range.{shr-far}
 use Rattle.laws.specs.Back.{back-shr}
 use Rattle.basic_op.proofs.sar64.Statement.{statement}
 use Rattle.basic_op.proofs.sar64.Tie as tie

@@ -1,7 +1,6 @@
 -- `line::line` meets its contract: each test picks its case of the definition, and a line of a form has its length.
-use mathlib.Core.Path.{_≡_, sym, _∙_}
+use mathlib.Core.Path.{sym, _∙_}
 use native.Mathlib.Omega.{arith}
-use lib.ListN.{length}
 use borrow.Author.Needs.{needs}
 use borrow.Author.Tests.{eq-eqb, ne-eqb}
 use Rattle.line.specs.Line.{opening, size, bytes, is, payload, took, line}

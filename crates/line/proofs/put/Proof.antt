@@ -1,5 +1,5 @@
 -- `line::put` meets its contract: the bytes written are those of the digits passed, and those behind them are unchanged.
-use mathlib.Core.Path.{_≡_, refl, sym}
+use mathlib.Core.Path.{_≡_, refl}
 use mathlib.Core.List.{_++_}
 use Prim.Native.Nat.{_-_, _≤_}
 use native.Mathlib.Omega.{arith}
