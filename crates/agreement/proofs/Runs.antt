@@ -11,11 +11,11 @@ use mir.Facts.{and-yes}
 use Rattle.tables.specs.Layout.{table-check}
 use Rattle.plc.specs.Kinds.{decide}
 use Rattle.state.specs.State.{read-params, read, write, fresh, accepted, accepted-state}
-use Rattle.state.specs.Laws.{Sized, read-sized, read-write, fresh-sized, fresh-accepted, accepted-write, check-of-accepted}
+use Rattle.state.specs.Laws.{Sized, read-sized, read-write, write-read, fresh-sized, fresh-accepted, accepted-write, check-of-accepted, accepted-parts}
 use Rattle.decoder.specs.Frame.{decode}
 use Rattle.decoder.specs.Call.{input-check, refusal, answer, frame}
 use Rattle.agreement.specs.Demand.{Call, made, number, block, output, answers, values, frames, AcceptedAfter, AnyOutput}
-use Rattle.agreement.specs.Run.{code, given, said, run, Demand2}
+use Rattle.agreement.specs.Run.{code, given, said, run, state-after, block-after, Demand2}
 use Rattle.agreement.proofs.Lengths.{sized-after}
 use Rattle.agreement.proofs.Ranges.{accepted-after-frame}
 
@@ -90,13 +90,29 @@ frames-are (c ∷ cs) b ok = go (code c) refl (frames-are cs _ (frame-accepted c
     go zero e r s = rw (made-frame c b ok e, e) (ap₂ _∷_ (values-are c b ok e) (r ∙ ap (run cs) (read-after c b ok)))
     go (suc k) e r s = rw (made-none c b ok k e, e, eqb·suc-zero) s
 
+pub block-left-is : (cs : List Call) (b : List ℤ) → T (accepted-state b) → block-after cs b ≡ write (state-after cs (read b))
+unfolding block-after state-after
+block-left-is [] b ok = sym (write-read b (accepted-parts b (T-true (accepted-state b) ok) .0))
+block-left-is (c ∷ cs) b ok = go (code c) refl (block-left-is cs _ (frame-accepted c b ok)) (block-left-is cs b ok)
+  where
+    w : List ℤ
+    w = write (given c (read b) .state)
+
+    go : (k : ℕ) → code c ≡ k → block-after cs w ≡ write (state-after cs (read w)) → block-after cs b ≡ write (state-after cs (read b))
+        → block-after (c ∷ cs) b ≡ write (state-after (c ∷ cs) (read b))
+    go zero e r s = rw (made-frame c b ok e, e) (r ∙ ap (λ x. write (state-after cs x)) (read-after c b ok))
+    go (suc k) e r s = rw (made-none c b ok k e, e, eqb·suc-zero) s
+
 pub demand-2 : Demand2
 demand-2 =
     record {
       answered = answers-are;
       from-block = frames-are;
+      block-left = block-left-is;
       from-fresh = λ t e cs.
           frames-are cs (write (fresh t)) (rw (fresh-accepted t e) tt) ∙ ap (run cs) (read-write (fresh t) (fresh-sized t));
+      block-left-from-fresh = λ t e cs.
+          block-left-is cs (write (fresh t)) (rw (fresh-accepted t e) tt) ∙ ap (λ x. write (state-after cs x)) (read-write (fresh t) (fresh-sized t));
     }
 
 -- ---- the output's old words

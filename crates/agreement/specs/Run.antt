@@ -11,7 +11,7 @@ use Rattle.plc.specs.Kinds.{decide}
 use Rattle.state.specs.State.{State, read, write, fresh, accepted-state}
 use Rattle.decoder.specs.Frame.{Frame, decode}
 use Rattle.decoder.specs.Call.{input-check}
-use Rattle.agreement.specs.Demand.{Call, answers, FrameValues, frames}
+use Rattle.agreement.specs.Demand.{Call, made, block, answers, FrameValues, frames}
 
 -- what a call returns in every accepted state
 unfoldable pub code : Call → ℕ
@@ -29,10 +29,23 @@ unfoldable pub run : List Call → State → List FrameValues
 run [] s = []
 run (c ∷ cs) s = cond (eqb (code c) 0) (said c s ∷ run cs (given c s .state)) (run cs s)
 
+-- the state that the last frame of the run leaves; with no frame, the state before it
+unfoldable pub state-after : List Call → State → State
+state-after [] s = s
+state-after (c ∷ cs) s = cond (eqb (code c) 0) (state-after cs (given c s .state)) (state-after cs s)
+
+-- the block that the calls leave, each call on the block that the call before left
+unfoldable pub block-after : List Call → List ℤ → List ℤ
+block-after [] b = b
+block-after (c ∷ cs) b = block-after cs (block (made c b))
+
 pub record Demand2 : Type 0 where
   -- on an accepted state block, whatever it holds, a call returns a number that the call alone decides, refusals 3 and 4 being excluded
   pub answered : (cs : List Call) (b : List ℤ) → T (accepted-state b) → answers cs b ≡ map code cs
   -- and the frames are the run from what the block holds
   pub from-block : (cs : List Call) (b : List ℤ) → T (accepted-state b) → frames cs b ≡ run cs (read b)
+  -- and the block that the calls leave holds the state that the run leaves
+  pub block-left : (cs : List Call) (b : List ℤ) → T (accepted-state b) → block-after cs b ≡ write (state-after cs (read b))
   -- from the fresh state: for an accepted table block, over every list of calls
   pub from-fresh : (t : List ℤ) → accepted-tables t → (cs : List Call) → frames cs (write (fresh t)) ≡ run cs (fresh t)
+  pub block-left-from-fresh : (t : List ℤ) → accepted-tables t → (cs : List Call) → block-after cs (write (fresh t)) ≡ write (state-after cs (fresh t))
