@@ -15,7 +15,7 @@ use Rattle.state.specs.Laws.{Sized, read-sized, read-write, write-read, fresh-s
 use Rattle.decoder.specs.Frame.{decode}
 use Rattle.decoder.specs.Call.{input-check, refusal, answer, frame}
 use Rattle.agreement.specs.Demand.{Call, made, number, block, output, answers, values, frames, AcceptedAfter, AnyOutput}
-use Rattle.agreement.specs.Run.{code, given, said, run, state-after, block-after, Demand2}
+use Rattle.agreement.specs.Run.{code, frame-of, values-of, run, state-after, block-after, Demand2}
 use Rattle.agreement.proofs.Lengths.{sized-after}
 use Rattle.agreement.proofs.Ranges.{accepted-after-frame}
 
@@ -34,27 +34,27 @@ module _ (c : Call) (b : List ℤ) (ok : T (accepted-state b)) where
   unfolding refusal code
   refusal-is = rw (check-of-accepted b (T-true (accepted-state b) ok), length-replicate)
 
-  pub made-frame : code c ≡ 0 → made c b ≡ answer 0 (write (given c (read b) .state)) (given c (read b) .samples)
-  unfolding made frame given
+  pub made-frame : code c ≡ 0 → made c b ≡ answer 0 (write (frame-of c (read b) .state)) (frame-of c (read b) .samples)
+  unfolding made frame frame-of
   made-frame e = rw (refusal-is, e)
 
   pub made-none : (k : ℕ) → code c ≡ suc k → made c b ≡ answer (suc k) b (replicate (c .room) (pos 0))
   unfolding made frame
   made-none k e = rw (refusal-is, e, eqb·suc-zero)
 
-  sized : Sized (given c (read b) .state)
-  unfolding given
+  sized : Sized (frame-of c (read b) .state)
+  unfolding frame-of
   sized = sized-after (c .tables) (read b) (read-sized b) _
 
-  pub read-after : read (write (given c (read b) .state)) ≡ given c (read b) .state
+  pub read-after : read (write (frame-of c (read b) .state)) ≡ frame-of c (read b) .state
   read-after = read-write _ sized
 
-  left-accepted : T (accepted (given c (read b) .state .params))
-  unfolding given decode
+  left-accepted : T (accepted (frame-of c (read b) .state .params))
+  unfolding frame-of decode
   left-accepted = accepted-after-frame (read b .params) (accepted-params b ok) (c .tables) _
 
-  pub frame-accepted : T (accepted-state (write (given c (read b) .state)))
-  frame-accepted = rw (accepted-write (given c (read b) .state) sized (T-true (accepted (given c (read b) .state .params)) left-accepted)) tt
+  pub frame-accepted : T (accepted-state (write (frame-of c (read b) .state)))
+  frame-accepted = rw (accepted-write (frame-of c (read b) .state) sized (T-true (accepted (frame-of c (read b) .state .params)) left-accepted)) tt
 
 pub accepted-after : AcceptedAfter
 accepted-after c b ok = go (code c) refl
@@ -74,8 +74,8 @@ answers-are (c ∷ cs) b ok = go (code c) refl (answers-are cs _ (accepted-after
     go zero e r = ap₂ {C = List ℕ} (λ x l. x ∷ l) (ap number (made-frame c b ok e) ∙ sym e) r
     go (suc k) e r = ap₂ {C = List ℕ} (λ x l. x ∷ l) (ap number (made-none c b ok k e) ∙ sym e) r
 
-values-are : (c : Call) (b : List ℤ) → T (accepted-state b) → code c ≡ 0 → values c b ≡ said c (read b)
-unfolding values said given read
+values-are : (c : Call) (b : List ℤ) → T (accepted-state b) → code c ≡ 0 → values c b ≡ values-of c (read b)
+unfolding values values-of frame-of read
 values-are c b ok e = rw (made-frame c b ok e)
 
 pub frames-are : (cs : List Call) (b : List ℤ) → T (accepted-state b) → frames cs b ≡ run cs (read b)
@@ -84,7 +84,7 @@ frames-are [] b ok = refl
 frames-are (c ∷ cs) b ok = go (code c) refl (frames-are cs _ (frame-accepted c b ok)) (frames-are cs b ok)
   where
     w : List ℤ
-    w = write (given c (read b) .state)
+    w = write (frame-of c (read b) .state)
 
     go : (k : ℕ) → code c ≡ k → frames cs w ≡ run cs (read w) → frames cs b ≡ run cs (read b) → frames (c ∷ cs) b ≡ run (c ∷ cs) (read b)
     go zero e r s = rw (made-frame c b ok e, e) (ap₂ _∷_ (values-are c b ok e) (r ∙ ap (run cs) (read-after c b ok)))
@@ -96,7 +96,7 @@ block-left-is [] b ok = sym (write-read b (accepted-parts b (T-true (accepted-st
 block-left-is (c ∷ cs) b ok = go (code c) refl (block-left-is cs _ (frame-accepted c b ok)) (block-left-is cs b ok)
   where
     w : List ℤ
-    w = write (given c (read b) .state)
+    w = write (frame-of c (read b) .state)
 
     go : (k : ℕ) → code c ≡ k → block-after cs w ≡ write (state-after cs (read w)) → block-after cs b ≡ write (state-after cs (read b))
         → block-after (c ∷ cs) b ≡ write (state-after (c ∷ cs) (read b))

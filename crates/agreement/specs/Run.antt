@@ -18,21 +18,21 @@ unfoldable pub code : Call → ℕ
 code c = cond (eqb (table-check (c .tables)) 0) (input-check (c .kind) (c .payload) (c .room)) (table-check (c .tables))
 
 -- the frame that the call is, by the definitions of the stages, and the state that it leaves
-unfoldable pub given : Call → State → Frame
-given c s = decode (c .tables) (decide (c .kind) (c .payload)) s
+unfoldable pub frame-of : Call → State → Frame
+frame-of c s = decode (c .tables) (decide (c .kind) (c .payload)) s
 
-unfoldable pub said : Call → State → FrameValues
-said c s = record { call = c; decoded = given c s .decoded; before = s .signal; samples = given c s .samples }
+unfoldable pub values-of : Call → State → FrameValues
+values-of c s = record { call = c; decoded = frame-of c s .decoded; before = s .signal; samples = frame-of c s .samples }
 
 -- the values of frame 1, frame 2 and so on, each from the state that the frame before left
 unfoldable pub run : List Call → State → List FrameValues
 run [] s = []
-run (c ∷ cs) s = cond (eqb (code c) 0) (said c s ∷ run cs (given c s .state)) (run cs s)
+run (c ∷ cs) s = cond (eqb (code c) 0) (values-of c s ∷ run cs (frame-of c s .state)) (run cs s)
 
 -- the state that the last frame of the run leaves; with no frame, the state before it
 unfoldable pub state-after : List Call → State → State
 state-after [] s = s
-state-after (c ∷ cs) s = cond (eqb (code c) 0) (state-after cs (given c s .state)) (state-after cs s)
+state-after (c ∷ cs) s = cond (eqb (code c) 0) (state-after cs (frame-of c s .state)) (state-after cs s)
 
 -- the block that the calls leave, each call on the block that the call before left
 unfoldable pub block-after : List Call → List ℤ → List ℤ
