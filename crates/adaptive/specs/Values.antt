@@ -1,4 +1,4 @@
--- Values of the definitions, computed (01, "Values to prove").
+-- Lemmas for `values` of agreement, which gathers the values that 01 wants proved.
 use mathlib.Core.Path.{_≡_, refl}
 use mathlib.Core.Bool.{true}
 use lib.IntN.{pos, negsuc}

@@ -23,7 +23,7 @@ use Rattle.parameters.specs.Parameters.{to-lsp, subframe, voice, parameters}
 use Rattle.decoder.specs.Frame.{Buffers, frame-signal, decode}
 use Rattle.agreement.specs.Demand.{Call, FrameValues, delays, pitch-gains, fixed-gains, frequencies, filters, signal-before, samples, All, VoiceWith, PassesParity, DelaysInRange, Alike, Agreement}
 use Rattle.agreement.proofs.Ranges.{delays-good, accepted-after-frame}
-use Rattle.agreement.specs.Run.{code, given, said, run}
+use Rattle.agreement.specs.Run.{code, frame-of, values-of, run}
 use Rattle.agreement.proofs.Runs.{accepted-params, answers-are, frames-are}
 
 -- ---- what is equal after n frames
@@ -131,11 +131,11 @@ module _ (t : List ℤ) (f : SpeechParams) {n : ℕ} {p q : Params} (h : Agree n
 
 -- ---- one call that returns 0 and is a voice frame
 
-voiced : (c : Call) (s : State) → c .kind ≡ 0 → given c s .decoded ≡ voice (c .tables) (unpack (c .payload)) (s .params)
-unfolding given decode decide parameters
+voiced : (c : Call) (s : State) → c .kind ≡ 0 → frame-of c s .decoded ≡ voice (c .tables) (unpack (c .payload)) (s .params)
+unfolding frame-of decode decide parameters
 voiced c s k = rw k
 
-module _ (n : ℕ) (c : Call) (k : c .kind ≡ 0) (a b : State) (h : Agree n (a .params) (b .params)) (first : n ≡ 0 → PassesParity (said c a)) where
+module _ (n : ℕ) (c : Call) (k : c .kind ≡ 0) (a b : State) (h : Agree n (a .params) (b .params)) (first : n ≡ 0 → PassesParity (values-of c a)) where
   t : List ℤ
   t = c .tables
 
@@ -143,44 +143,44 @@ module _ (n : ℕ) (c : Call) (k : c .kind ≡ 0) (a b : State) (h : Agree n (a 
   f = unpack (c .payload)
 
   parity : n ≡ 0 → T (adaptive.parity-ok (f .p1) (f .p0))
-  unfolding f said
+  unfolding f values-of
   parity e = first e
 
-  now : {A : Type 0} (g : Decoded → A) → g (voice t f (a .params)) ≡ g (voice t f (b .params)) → g (given c a .decoded) ≡ g (given c b .decoded)
+  now : {A : Type 0} (g : Decoded → A) → g (voice t f (a .params)) ≡ g (voice t f (b .params)) → g (frame-of c a .decoded) ≡ g (frame-of c b .decoded)
   unfolding t f
   now g e = ap g (voiced c a k) ∙ e ∙ sym (ap g (voiced c b k))
 
-  agree-after : Agree (suc n) (given c a .state .params) (given c b .state .params)
-  unfolding given decode t f v w
-  agree-after = subst (λ (x : Decoded). Agree (suc n) (x .params) (given c b .decoded .params)) (sym (voiced c a k)) half
+  agree-after : Agree (suc n) (frame-of c a .state .params) (frame-of c b .state .params)
+  unfolding frame-of decode t f v w
+  agree-after = subst (λ (x : Decoded). Agree (suc n) (x .params) (frame-of c b .decoded .params)) (sym (voiced c a k)) half
     where
-      half : Agree (suc n) (voice (c .tables) (unpack (c .payload)) (a .params) .params) (given c b .decoded .params)
+      half : Agree (suc n) (voice (c .tables) (unpack (c .payload)) (a .params) .params) (frame-of c b .decoded .params)
       half = subst (λ (x : Decoded). Agree (suc n) (voice (c .tables) (unpack (c .payload)) (a .params) .params) (x .params)) (sym (voiced c b k)) (one-more t f h parity)
 
-  delays-now : delays (said c a) ≡ delays (said c b)
-  unfolding said v w
+  delays-now : delays (values-of c a) ≡ delays (values-of c b)
+  unfolding values-of v w
   delays-now = now (λ d. (d .first .delay, d .second .delay)) (let e = same-delays t f h parity in λ i. (e .0 i, e .1 i))
 
-  pitch-now : pitch-gains (said c a) ≡ pitch-gains (said c b)
-  unfolding said v w
+  pitch-now : pitch-gains (values-of c a) ≡ pitch-gains (values-of c b)
+  unfolding values-of v w
   pitch-now = now (λ d. (d .first .gp, d .second .gp)) (let e = same-pitch t f h parity in λ i. (e .0 i, e .1 i))
 
-  fixed-now : 2 ≤ n → fixed-gains (said c a) ≡ fixed-gains (said c b)
-  unfolding said v w
+  fixed-now : 2 ≤ n → fixed-gains (values-of c a) ≡ fixed-gains (values-of c b)
+  unfolding values-of v w
   fixed-now l = now (λ d. (d .first .gc, d .second .gc)) (let e = same-fixed t f h parity l in λ i. (e .0 i, e .1 i))
 
-  lsf-now : 4 ≤ n → frequencies (said c a) ≡ frequencies (said c b)
-  unfolding said v w
+  lsf-now : 4 ≤ n → frequencies (values-of c a) ≡ frequencies (values-of c b)
+  unfolding values-of v w
   lsf-now l = now (λ d. d .params .omega) (same-lsf t f h parity l)
 
-  filters-now : 5 ≤ n → filters (said c a) ≡ filters (said c b)
-  unfolding said v w
+  filters-now : 5 ≤ n → filters (values-of c a) ≡ filters (values-of c b)
+  unfolding values-of v w
   filters-now l = now (λ d. (d .first .a, d .second .a)) (let e = same-filters t f h parity l in λ i. (e .0 i, e .1 i))
 
   -- equal subframes on an equal signal
   buffers-now : 5 ≤ n → a .signal ≡ b .signal →
-      frame-signal (c .tables) (given c a .decoded .first) (given c a .decoded .second) (a .signal) ≡
-      frame-signal (c .tables) (given c b .decoded .first) (given c b .decoded .second) (b .signal)
+      frame-signal (c .tables) (frame-of c a .decoded .first) (frame-of c a .decoded .second) (a .signal) ≡
+      frame-signal (c .tables) (frame-of c b .decoded .first) (frame-of c b .decoded .second) (b .signal)
   unfolding v w
   buffers-now l e =
       let s = same-subframes t f h parity l in
@@ -188,18 +188,18 @@ module _ (n : ℕ) (c : Call) (k : c .kind ≡ 0) (a b : State) (h : Agree n (a 
       let y = now (λ d. d .second) (s .1) in
       λ i. frame-signal (c .tables) (x i) (y i) (e i)
 
-  samples-now : 5 ≤ n → a .signal ≡ b .signal → samples (said c a) ≡ samples (said c b)
-  unfolding said given decode
+  samples-now : 5 ≤ n → a .signal ≡ b .signal → samples (values-of c a) ≡ samples (values-of c b)
+  unfolding values-of frame-of decode
   samples-now l e = ap (λ (x : Buffers). drop 10 (x .speech)) (buffers-now l e)
 
-  signal-after : 5 ≤ n → a .signal ≡ b .signal → given c a .state .signal ≡ given c b .state .signal
-  unfolding given decode
+  signal-after : 5 ≤ n → a .signal ≡ b .signal → frame-of c a .state .signal ≡ frame-of c b .state .signal
+  unfolding frame-of decode
   signal-after l e = let x = buffers-now l e in λ i. record { past = drop 80 (x i .exc); tail = drop 80 (x i .speech) }
 
 -- ---- the run of a list, a call at a time
 
 module _ (c : Call) (cs : List Call) (s : State) where
-  run-frame : code c ≡ 0 → run (c ∷ cs) s ≡ said c s ∷ run cs (given c s .state)
+  run-frame : code c ≡ 0 → run (c ∷ cs) s ≡ values-of c s ∷ run cs (frame-of c s .state)
   unfolding run
   run-frame e = rw e
 
@@ -212,30 +212,30 @@ Voices : List Call → Type 0
 Voices cs = All (λ c. code c ≡ 0 → c .kind ≡ 0) cs
 
 voices : (t : List ℤ) (cs : List Call) (s : State) → All (VoiceWith t) (run cs s) → Voices cs
-unfolding Voices said run
+unfolding Voices values-of run
 voices t [] s h = tt
-voices t (c ∷ cs) s h = go (code c) refl (voices t cs (given c s .state)) (voices t cs s)
+voices t (c ∷ cs) s h = go (code c) refl (voices t cs (frame-of c s .state)) (voices t cs s)
   where
-    go : (k : ℕ) → code c ≡ k → (All (VoiceWith t) (run cs (given c s .state)) → Voices cs) → (All (VoiceWith t) (run cs s) → Voices cs) → Voices (c ∷ cs)
+    go : (k : ℕ) → code c ≡ k → (All (VoiceWith t) (run cs (frame-of c s .state)) → Voices cs) → (All (VoiceWith t) (run cs s) → Voices cs) → Voices (c ∷ cs)
     go zero z r u = let x = subst (All (VoiceWith t)) (run-frame c cs s z) h in (λ e. x .0 .0, r (x .1))
     go (suc k) z r u = (λ e. absurd (omega arith), u (subst (All (VoiceWith t)) (run-none c cs s k z) h))
 
 -- ---- ranges
 
-good : (c : Call) (s : State) → c .kind ≡ 0 → T (accepted (s .params)) → DelaysInRange (said c s)
-unfolding said
+good : (c : Call) (s : State) → c .kind ≡ 0 → T (accepted (s .params)) → DelaysInRange (values-of c s)
+unfolding values-of
 good c s k ok = rw (voiced c s k) (delays-good (s .params) ok (c .tables) (unpack (c .payload)))
 
-good-after : (c : Call) (s : State) → T (accepted (s .params)) → T (accepted (given c s .state .params))
-unfolding given decode
+good-after : (c : Call) (s : State) → T (accepted (s .params)) → T (accepted (frame-of c s .state .params))
+unfolding frame-of decode
 good-after c s ok = accepted-after-frame (s .params) ok (c .tables) _
 
 in-range : (cs : List Call) (s : State) → Voices cs → T (accepted (s .params)) → All DelaysInRange (run cs s)
 unfolding Voices run
 in-range [] s h ok = tt
-in-range (c ∷ cs) s h ok = go (code c) refl (in-range cs (given c s .state) (h .1) (good-after c s ok)) (in-range cs s (h .1) ok)
+in-range (c ∷ cs) s h ok = go (code c) refl (in-range cs (frame-of c s .state) (h .1) (good-after c s ok)) (in-range cs s (h .1) ok)
   where
-    go : (k : ℕ) → code c ≡ k → All DelaysInRange (run cs (given c s .state)) → All DelaysInRange (run cs s) → All DelaysInRange (run (c ∷ cs) s)
+    go : (k : ℕ) → code c ≡ k → All DelaysInRange (run cs (frame-of c s .state)) → All DelaysInRange (run cs s) → All DelaysInRange (run (c ∷ cs) s)
     go zero z r u = rw (run-frame c cs s z) (good c s (h .0 z) ok, r)
     go (suc k) z r u = rw (run-none c cs s k z) u
 
@@ -246,13 +246,13 @@ unfolding Voices run
 heard n l [] a b h g e = refl
 heard n l (c ∷ cs) a b h g e =
     go (code c) refl
-    (λ k. heard (suc n) (omega arith) cs (given c a .state) (given c b .state) (h .1) (agree-after n c k a b g past-first) (signal-after n c k a b g past-first l e))
+    (λ k. heard (suc n) (omega arith) cs (frame-of c a .state) (frame-of c b .state) (h .1) (agree-after n c k a b g past-first) (signal-after n c k a b g past-first l e))
     (heard n l cs a b (h .1) g e)
   where
-    past-first : n ≡ 0 → PassesParity (said c a)
+    past-first : n ≡ 0 → PassesParity (values-of c a)
     past-first z = absurd (omega arith)
 
-    go : (m : ℕ) → code c ≡ m → (c .kind ≡ 0 → map samples (run cs (given c a .state)) ≡ map samples (run cs (given c b .state))) → map samples (run cs a) ≡ map samples (run cs b)
+    go : (m : ℕ) → code c ≡ m → (c .kind ≡ 0 → map samples (run cs (frame-of c a .state)) ≡ map samples (run cs (frame-of c b .state))) → map samples (run cs a) ≡ map samples (run cs b)
         → map samples (run (c ∷ cs) a) ≡ map samples (run (c ∷ cs) b)
     go zero z r u = rw (run-frame c cs a z, run-frame c cs b z) (ap₂ _∷_ (samples-now n c (h .0 z) a b g past-first l e) (r (h .0 z)))
     go (suc m) z r u = rw (run-none c cs a m z, run-none c cs b m z) u
@@ -285,12 +285,12 @@ front : List Signal → Signal
 front [] = record { past = []; tail = [] }
 front (x ∷ l) = x
 
-one-call : (n : ℕ) (c : Call) (k : c .kind ≡ 0) (a b : State) (vs ws : List FrameValues) → Agree n (a .params) (b .params) → (n ≡ 0 → PassesParity (said c a))
-    → (5 ≤ n → a .signal ≡ b .signal → map samples vs ≡ map samples ws) → Rest (suc n) vs ws → Rest n (said c a ∷ vs) (said c b ∷ ws)
-unfolding said front
+one-call : (n : ℕ) (c : Call) (k : c .kind ≡ 0) (a b : State) (vs ws : List FrameValues) → Agree n (a .params) (b .params) → (n ≡ 0 → PassesParity (values-of c a))
+    → (5 ≤ n → a .signal ≡ b .signal → map samples vs ≡ map samples ws) → Rest (suc n) vs ws → Rest n (values-of c a ∷ vs) (values-of c b ∷ ws)
+unfolding values-of front
 one-call n c k a b vs ws h first loud r =
-    let x = said c a in
-    let y = said c b in
+    let x = values-of c a in
+    let y = values-of c b in
     record {
       delays = later 0 n delays x y vs ws (λ l. delays-now n c k a b h first) (r .delays);
       pitch = later 0 n pitch-gains x y vs ws (λ l. pitch-now n c k a b h first) (r .pitch);
@@ -300,8 +300,8 @@ one-call n c k a b vs ws h first loud r =
       samples = same;
     }
   where
-    same : (m : ℕ) → 5 ≤ n + m → map signal-before (take 1 (drop m (said c a ∷ vs))) ≡ map signal-before (take 1 (drop m (said c b ∷ ws)))
-        → map samples (drop m (said c a ∷ vs)) ≡ map samples (drop m (said c b ∷ ws))
+    same : (m : ℕ) → 5 ≤ n + m → map signal-before (take 1 (drop m (values-of c a ∷ vs))) ≡ map signal-before (take 1 (drop m (values-of c b ∷ ws)))
+        → map samples (drop m (values-of c a ∷ vs)) ≡ map samples (drop m (values-of c b ∷ ws))
     same zero l e = let s = ap front e in ap₂ _∷_ (samples-now n c k a b h first (omega arith) s) (loud (omega arith) s)
     same (suc m) l e = r .samples m (omega arith) e
 
@@ -314,18 +314,18 @@ unfolding Voices run First
 rest n [] a b h g first = record { delays = refl; pitch = refl; fixed = refl; lsf = refl; filters = refl; samples = λ m l e. refl }
 rest n (c ∷ cs) a b h g first =
     go (code c) refl
-    (λ k p. rest (suc n) cs (given c a .state) (given c b .state) (h .1) (agree-after n c k a b g p) (λ z. absurd (omega arith)))
+    (λ k p. rest (suc n) cs (frame-of c a .state) (frame-of c b .state) (h .1) (agree-after n c k a b g p) (λ z. absurd (omega arith)))
     (λ p. rest n cs a b (h .1) g p)
   where
     go : (m : ℕ) → code c ≡ m
-        → (c .kind ≡ 0 → (n ≡ 0 → PassesParity (said c a)) → Rest (suc n) (run cs (given c a .state)) (run cs (given c b .state)))
+        → (c .kind ≡ 0 → (n ≡ 0 → PassesParity (values-of c a)) → Rest (suc n) (run cs (frame-of c a .state)) (run cs (frame-of c b .state)))
         → (First n (run cs a) → Rest n (run cs a) (run cs b))
         → Rest n (run (c ∷ cs) a) (run (c ∷ cs) b)
     go zero z r u =
         let k = h .0 z in
-        let p : n ≡ 0 → PassesParity (said c a) = λ e. (rw (run-frame c cs a z) at (first e)) .0 in
+        let p : n ≡ 0 → PassesParity (values-of c a) = λ e. (rw (run-frame c cs a z) at (first e)) .0 in
         rw (run-frame c cs a z, run-frame c cs b z)
-        (one-call n c k a b _ _ g p (λ l e. heard (suc n) (omega arith) cs (given c a .state) (given c b .state) (h .1) (agree-after n c k a b g p) (signal-after n c k a b g p l e)) (r k p))
+        (one-call n c k a b _ _ g p (λ l e. heard (suc n) (omega arith) cs (frame-of c a .state) (frame-of c b .state) (h .1) (agree-after n c k a b g p) (signal-after n c k a b g p l e)) (r k p))
     go (suc m) z r u = rw (run-none c cs a m z, run-none c cs b m z) (u (λ e. rw (run-none c cs a m z) at (first e)))
 
 -- ---- the claim on blocks

@@ -29,5 +29,5 @@ unfolding Operators tables.row tables.log2 tables.scalar tables.table-check form
 Stages = Unit {0}
 
 unfoldable pub Run : Type 0
-unfolding Stages plc.payload-length plc.decide state.part state.read-params state.read-signal state.read state.a-delay state.a-predictor state.accepted state.state-check state.accepted-state parameters.sharpened parameters.subframe parameters.voice parameters.parameters decoder.decode call.input-check runs.code runs.given runs.said runs.run
+unfolding Stages plc.payload-length plc.decide state.part state.read-params state.read-signal state.read state.delay-in-range state.predictor-in-range state.accepted state.state-check state.accepted-state parameters.sharpened parameters.subframe parameters.voice parameters.parameters decoder.decode call.input-check runs.code runs.frame-of runs.values-of runs.run
 Run = Unit {0}

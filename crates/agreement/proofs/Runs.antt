@@ -9,11 +9,11 @@ use lib.IntN.{ℤ, pos}
 use lib.ListN.{length, replicate, length-replicate}
 use mir.Facts.{and-yes}
 use Rattle.state.specs.State.{read-params, read, write, fresh, accepted, accepted-state}
-use Rattle.state.specs.Laws.{Sized, read-sized, read-write, fresh-sized, fresh-accepted, accepted-write, check-of-accepted}
+use Rattle.state.specs.Laws.{Sized, read-sized, read-write, write-read, fresh-sized, fresh-accepted, accepted-write, check-of-accepted, accepted-parts}
 use Rattle.decoder.specs.Frame.{decode}
 use Rattle.decoder.specs.Call.{refusal, answer, frame}
 use Rattle.agreement.specs.Demand.{Call, made, number, block, output, answers, values, frames, AcceptedAfter, AnyOutput}
-use Rattle.agreement.specs.Run.{code, given, said, run, Demand2}
+use Rattle.agreement.specs.Run.{code, frame-of, values-of, run, state-after, block-after, Demand2}
 use Rattle.agreement.proofs.Lengths.{sized-after}
 use Rattle.agreement.proofs.Ranges.{accepted-after-frame}
 
@@ -32,27 +32,27 @@ module _ (c : Call) (b : List ℤ) (ok : T (accepted-state b)) where
   unfolding refusal code
   refusal-is = rw (check-of-accepted b (T-true (accepted-state b) ok), length-replicate)
 
-  pub made-frame : code c ≡ 0 → made c b ≡ answer 0 (write (given c (read b) .state)) (given c (read b) .samples)
-  unfolding made frame given
+  pub made-frame : code c ≡ 0 → made c b ≡ answer 0 (write (frame-of c (read b) .state)) (frame-of c (read b) .samples)
+  unfolding made frame frame-of
   made-frame e = rw (refusal-is, e)
 
   pub made-none : (k : ℕ) → code c ≡ suc k → made c b ≡ answer (suc k) b (replicate (c .room) (pos 0))
   unfolding made frame
   made-none k e = rw (refusal-is, e, eqb·suc-zero)
 
-  sized : Sized (given c (read b) .state)
-  unfolding given
+  sized : Sized (frame-of c (read b) .state)
+  unfolding frame-of
   sized = sized-after (c .tables) (read b) (read-sized b) _
 
-  pub read-after : read (write (given c (read b) .state)) ≡ given c (read b) .state
+  pub read-after : read (write (frame-of c (read b) .state)) ≡ frame-of c (read b) .state
   read-after = read-write _ sized
 
-  left-accepted : T (accepted (given c (read b) .state .params))
-  unfolding given decode
+  left-accepted : T (accepted (frame-of c (read b) .state .params))
+  unfolding frame-of decode
   left-accepted = accepted-after-frame (read b .params) (accepted-params b ok) (c .tables) _
 
-  pub frame-accepted : T (accepted-state (write (given c (read b) .state)))
-  frame-accepted = rw (accepted-write (given c (read b) .state) sized (T-true (accepted (given c (read b) .state .params)) left-accepted)) tt
+  pub frame-accepted : T (accepted-state (write (frame-of c (read b) .state)))
+  frame-accepted = rw (accepted-write (frame-of c (read b) .state) sized (T-true (accepted (frame-of c (read b) .state .params)) left-accepted)) tt
 
 pub accepted-after : AcceptedAfter
 accepted-after c b ok = go (code c) refl
@@ -72,8 +72,8 @@ answers-are (c ∷ cs) b ok = go (code c) refl (answers-are cs _ (accepted-after
     go zero e r = ap₂ {C = List ℕ} (λ x l. x ∷ l) (ap number (made-frame c b ok e) ∙ sym e) r
     go (suc k) e r = ap₂ {C = List ℕ} (λ x l. x ∷ l) (ap number (made-none c b ok k e) ∙ sym e) r
 
-values-are : (c : Call) (b : List ℤ) → T (accepted-state b) → code c ≡ 0 → values c b ≡ said c (read b)
-unfolding values said given read
+values-are : (c : Call) (b : List ℤ) → T (accepted-state b) → code c ≡ 0 → values c b ≡ values-of c (read b)
+unfolding values values-of frame-of read
 values-are c b ok e = rw (made-frame c b ok e)
 
 pub frames-are : (cs : List Call) (b : List ℤ) → T (accepted-state b) → frames cs b ≡ run cs (read b)
@@ -82,10 +82,23 @@ frames-are [] b ok = refl
 frames-are (c ∷ cs) b ok = go (code c) refl (frames-are cs _ (frame-accepted c b ok)) (frames-are cs b ok)
   where
     w : List ℤ
-    w = write (given c (read b) .state)
+    w = write (frame-of c (read b) .state)
 
     go : (k : ℕ) → code c ≡ k → frames cs w ≡ run cs (read w) → frames cs b ≡ run cs (read b) → frames (c ∷ cs) b ≡ run (c ∷ cs) (read b)
     go zero e r s = rw (made-frame c b ok e, e) (ap₂ _∷_ (values-are c b ok e) (r ∙ ap (run cs) (read-after c b ok)))
+    go (suc k) e r s = rw (made-none c b ok k e, e, eqb·suc-zero) s
+
+pub block-left-is : (cs : List Call) (b : List ℤ) → T (accepted-state b) → block-after cs b ≡ write (state-after cs (read b))
+unfolding block-after state-after
+block-left-is [] b ok = sym (write-read b (accepted-parts b (T-true (accepted-state b) ok) .0))
+block-left-is (c ∷ cs) b ok = go (code c) refl (block-left-is cs _ (frame-accepted c b ok)) (block-left-is cs b ok)
+  where
+    w : List ℤ
+    w = write (frame-of c (read b) .state)
+
+    go : (k : ℕ) → code c ≡ k → block-after cs w ≡ write (state-after cs (read w)) → block-after cs b ≡ write (state-after cs (read b))
+        → block-after (c ∷ cs) b ≡ write (state-after (c ∷ cs) (read b))
+    go zero e r s = rw (made-frame c b ok e, e) (r ∙ ap (λ x. write (state-after cs x)) (read-after c b ok))
     go (suc k) e r s = rw (made-none c b ok k e, e, eqb·suc-zero) s
 
 pub demand-2 : Demand2
@@ -93,8 +106,11 @@ demand-2 =
     record {
       answered = answers-are;
       from-block = frames-are;
+      block-left = block-left-is;
       from-fresh = λ t e cs.
           frames-are cs (write (fresh t)) (rw (fresh-accepted t e) tt) ∙ ap (run cs) (read-write (fresh t) (fresh-sized t));
+      block-left-from-fresh = λ t e cs.
+          block-left-is cs (write (fresh t)) (rw (fresh-accepted t e) tt) ∙ ap (λ x. write (state-after cs x)) (read-write (fresh t) (fresh-sized t));
     }
 
 -- ---- the output's old words

@@ -15,7 +15,7 @@ use Rattle.bitstream.specs.Fields.{unpack}
 use Rattle.adaptive.specs.declared.Delay.{Delay}
 use Rattle.adaptive.specs.Adaptive.{parity-ok}
 use Rattle.plc.specs.Kinds.{decide}
-use Rattle.state.specs.State.{Signal, read, read-signal, a-delay, accepted-state}
+use Rattle.state.specs.State.{Signal, read, read-signal, delay-in-range, accepted-state}
 use Rattle.parameters.specs.declared.Decoded.{Decoded}
 use Rattle.decoder.specs.Frame.{decode}
 use Rattle.decoder.specs.Call.{Answer, answer, frame}
@@ -142,13 +142,13 @@ pub record Alike (t : List ℤ) (cs : List Call) (a b : List ℤ) : Type 0 where
 -- ---- the claim on two decoders, blocks a and b
 
 -- from -1 to 1
-unfoldable pub a-fraction : ℤ → Bool
-a-fraction d = leZ (negsuc 0) d && leZ d (pos 1)
+unfoldable pub fraction-in-range : ℤ → Bool
+fraction-in-range d = leZ (negsuc 0) d && leZ d (pos 1)
 
 -- a delay in 19..144 with a fraction in -1..1
 pub record InRange (d : Delay) : Type 0 where
-  pub integer : T (a-delay (d .integer))
-  pub fraction : T (a-fraction (d .fraction))
+  pub integer : T (delay-in-range (d .integer))
+  pub fraction : T (fraction-in-range (d .fraction))
 
 abbrev pub DelaysInRange : FrameValues → Type 0
 DelaysInRange v = InRange (v .decoded .first .delay) × InRange (v .decoded .second .delay)

@@ -1,4 +1,4 @@
--- Values of the operators at numbers, by computation (01, "Values to prove").
+-- Lemmas for `values` of agreement, which gathers the values that 01 wants proved.
 use mathlib.Core.Path.{_≡_, refl}
 use lib.IntN.{pos, negsuc}
 use Rattle.basic_op.specs.Ops.{sat, l-mult, norm-l, doublings, normal}

@@ -1,4 +1,4 @@
--- Values of the definitions, computed (01, "Values to prove").
+-- Lemmas for `values` of agreement, which gathers the values that 01 wants proved.
 use mathlib.Core.Path.{_≡_, refl}
 use lib.IntN.{ℤ, pos, negsuc}
 use Rattle.basic_op.specs.Ops.{low16, extract-l}

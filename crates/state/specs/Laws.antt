@@ -16,7 +16,7 @@ use Rattle.laws.specs.Lists.{at, length-tab, tab-part}
 use Rattle.tables.specs.declared.Scalar.the-variants.{InitialPreviousPitchDelay}
 use Rattle.tables.specs.Layout.{row, scalar, table-check}
 use Rattle.tables.specs.Formula.{lsp-quantizer-initial-memory, gain-predictor-initial-memory}
-use Rattle.state.specs.State.{part, State, read-params, read-signal, read, write-params, write, fresh-params, fresh, a-delay, a-predictor, accepted, state-check, accepted-state}
+use Rattle.state.specs.State.{part, State, read-params, read-signal, read, write-params, write, fresh-params, fresh, delay-in-range, predictor-in-range, accepted, state-check, accepted-state}
 
 -- ---- how many words each part has
 
@@ -141,8 +141,8 @@ le-of-not-lt (negsuc a) (pos b) h = absurd (true≢false h)
 le-of-not-lt (negsuc a) (negsuc b) h = le-leb a b (ltb-false b a h)
 
 -- a table block that is not refused has a delay in range
-accepted-delay : (t : List ℤ) → table-check t ≡ 0 → a-delay (scalar t InitialPreviousPitchDelay) ≡ true
-unfolding table-check a-delay
+accepted-delay : (t : List ℤ) → table-check t ≡ 0 → delay-in-range (scalar t InitialPreviousPitchDelay) ≡ true
+unfolding table-check delay-in-range
 accepted-delay t e = go (eqb (length t) 1880) (ltZ d (pos 19)) (ltZ (pos 144) d) e refl refl
   where
     d : ℤ
@@ -160,7 +160,7 @@ accepted-write s k h = rw (eq-eqb _ _ (length-write s k)) (ap (λ (x : State). a
 
 -- a fresh state is accepted
 pub fresh-accepted : (t : List ℤ) → table-check t ≡ 0 → accepted-state (write (fresh t)) ≡ true
-unfolding fresh fresh-params accepted a-predictor
+unfolding fresh fresh-params accepted predictor-in-range
 fresh-accepted t h = accepted-write (fresh t) (fresh-sized t) (accepted-delay t h)
 
 pub accepted-of-check : (b : List ℤ) → state-check b ≡ 0 → accepted-state b ≡ true

@@ -57,7 +57,7 @@ write-params p =
 unfoldable pub write : State → List ℤ
 write s = write-params (s .params) ++ (s .signal .past ++ s .signal .tail)
 
--- ---- the fresh state (01; `Decoder::new` of the Rust)
+-- ---- the fresh state (01; G.729 clause 4.3, Table 9, and clause 4.4.4; `Decoder::new` of the Rust)
 
 unfoldable pub fresh-params : List ℤ → Params
 fresh-params t =
@@ -82,15 +82,15 @@ fresh t = record { params = fresh-params t; signal = record { past = replicate 1
 
 -- ---- refusals
 
-unfoldable pub a-delay : ℤ → Bool
-a-delay d = leZ (pos 19) d && leZ d (pos 144)
+unfoldable pub delay-in-range : ℤ → Bool
+delay-in-range d = leZ (pos 19) d && leZ d (pos 144)
 
-unfoldable pub a-predictor : ℤ → Bool
-a-predictor p = leZ (pos 0) p && leZ p (pos 1)
+unfoldable pub predictor-in-range : ℤ → Bool
+predictor-in-range p = leZ (pos 0) p && leZ p (pos 1)
 
 -- predictor and delay are in range
 unfoldable pub accepted : Params → Bool
-accepted p = a-predictor (p .predictor) && a-delay (p .pitch .old)
+accepted p = predictor-in-range (p .predictor) && delay-in-range (p .pitch .old)
 
 -- 3: not 234 words. 4: predictor or delay out of range.
 unfoldable pub state-check : List ℤ → ℕ

@@ -8,7 +8,7 @@ ghost use lib.Dec.{eqb};
 ghost use lib.IntN.{pos};
 ghost use lib.ListN.{length, take, drop, replicate};
 ghost use Rattle.laws.specs.Lists.{at, filled};
-ghost use Rattle.state.specs.State.{part, read-params, write-params, write, fresh-params, fresh, a-delay, a-predictor, state-check, Answer, fresh-state};
+ghost use Rattle.state.specs.State.{part, read-params, write-params, write, fresh-params, fresh, delay-in-range, predictor-in-range, state-check, Answer, fresh-state};
 use adaptive::PitchState;
 use gain::GainState;
 
@@ -236,14 +236,14 @@ pub fn copy_block(b: &mut [i16], v: [i16; 234])
 
 // ---- refusals
 
-fn a_predictor(p: i16) -> bool
-    ensures { λ r. ⌜ r ≡ a-predictor p ⌝ }
+fn predictor_in_range(p: i16) -> bool
+    ensures { λ r. ⌜ r ≡ predictor-in-range p ⌝ }
 {
     if 0 <= p { p <= 1 } else { false }
 }
 
-fn a_delay(d: i16) -> bool
-    ensures { λ r. ⌜ r ≡ a-delay d ⌝ }
+fn delay_in_range(d: i16) -> bool
+    ensures { λ r. ⌜ r ≡ delay-in-range d ⌝ }
 {
     if 19 <= d { d <= 144 } else { false }
 }
@@ -255,8 +255,8 @@ pub fn state_check(b: &[i16]) -> u32
     if b.len() != 234 {
         return 3;
     }
-    if a_predictor(tables::word(b, 40)) {
-        if a_delay(tables::word(b, 61)) {
+    if predictor_in_range(tables::word(b, 40)) {
+        if delay_in_range(tables::word(b, 61)) {
             return 0;
         }
     }

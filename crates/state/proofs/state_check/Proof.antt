@@ -20,11 +20,11 @@ returns-2 c =
       eq-eqb _ _ (p .before .before .if1 .left),
       ← p .before .word .ensures,
       ← came w16 (p .before .word),
-      ← p .a-predictor .ensures,
+      ← p .predictor-in-range .ensures,
       d .before .before .if2 .taken,
       ← d .before .word2 .ensures,
       ← came w16 (d .before .word2),
-      ← d .a-delay .ensures,
+      ← d .delay-in-range .ensures,
       c .if3 .taken,
     )
 
@@ -37,11 +37,11 @@ returns-3 c =
       eq-eqb _ _ (p .before .before .if1 .left),
       ← p .before .word .ensures,
       ← came w16 (p .before .word),
-      ← p .a-predictor .ensures,
+      ← p .predictor-in-range .ensures,
       d .before .before .if2 .taken,
       ← d .before .word2 .ensures,
       ← came w16 (d .before .word2),
-      ← d .a-delay .ensures,
+      ← d .delay-in-range .ensures,
       c .if3 .left,
     )
 
@@ -49,7 +49,7 @@ returns-4 : tie.Need-returns-4
 unfolding state-check accepted read-params
 returns-4 c =
     let p = c .before in
-    rw (eq-eqb _ _ (p .before .before .if1 .left), ← p .before .word .ensures, ← came w16 (p .before .word), ← p .a-predictor .ensures, c .if2 .left)
+    rw (eq-eqb _ _ (p .before .before .if1 .left), ← p .before .word .ensures, ← came w16 (p .before .word), ← p .predictor-in-range .ensures, c .if2 .left)
 
 pub state-check-spec : {M : Type 1} → statement M
 state-check-spec =
