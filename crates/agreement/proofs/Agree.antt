@@ -21,7 +21,8 @@ use Rattle.state.specs.State.{Signal, State, read, accepted}
 use Rattle.decoder.specs.declared.Decoded.{Decoded}
 use Rattle.decoder.specs.Frame.{to-lsp, subframe, voice, parameters, Buffers, frame-signal, decode}
 use Rattle.agreement.specs.Demand.{Call, FrameValues, delays, pitch-gains, fixed-gains, frequencies, filters, signal-before, samples, All, VoiceWith, PassesParity, DelaysInRange, Alike, Agreement}
-use Rattle.agreement.proofs.Ranges.{delays-good, accepted-after-frame}
+use Rattle.decoder.specs.Accepted.{accepted-after-frame}
+use Rattle.agreement.proofs.Ranges.{delays-good}
 use Rattle.agreement.specs.Run.{code, given, said, run}
 use Rattle.agreement.proofs.Runs.{accepted-params, answers-are, frames-are}
 

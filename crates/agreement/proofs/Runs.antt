@@ -11,13 +11,12 @@ use mir.Facts.{and-yes}
 use Rattle.tables.specs.Layout.{table-check}
 use Rattle.plc.specs.Kinds.{decide}
 use Rattle.state.specs.State.{read-params, read, write, fresh, accepted, accepted-state}
-use Rattle.state.specs.Laws.{Sized, read-sized, read-write, fresh-sized, fresh-accepted, accepted-write, check-of-accepted}
-use Rattle.decoder.specs.Frame.{decode}
+use Rattle.state.specs.Laws.{Sized, read-sized, read-write, fresh-sized, fresh-accepted, accepted-of-check, check-of-accepted}
 use Rattle.decoder.specs.Call.{input-check, refusal, answer, frame}
+use Rattle.decoder.specs.Lengths.{sized-after}
+use Rattle.decoder.specs.Accepted.{decode-accepted}
 use Rattle.agreement.specs.Demand.{Call, made, number, block, output, answers, values, frames, AcceptedAfter, AnyOutput}
 use Rattle.agreement.specs.Run.{code, given, said, run, Demand2}
-use Rattle.agreement.proofs.Lengths.{sized-after}
-use Rattle.agreement.proofs.Ranges.{accepted-after-frame}
 
 -- ---- one call on an accepted block
 
@@ -49,12 +48,9 @@ module _ (c : Call) (b : List ℤ) (ok : T (accepted-state b)) where
   pub read-after : read (write (given c (read b) .state)) ≡ given c (read b) .state
   read-after = read-write _ sized
 
-  left-accepted : T (accepted (given c (read b) .state .params))
-  unfolding given decode
-  left-accepted = accepted-after-frame (read b .params) (accepted-params b ok) (c .tables) _
-
   pub frame-accepted : T (accepted-state (write (given c (read b) .state)))
-  frame-accepted = rw (accepted-write (given c (read b) .state) sized (T-true (accepted (given c (read b) .state .params)) left-accepted)) tt
+  unfolding given
+  frame-accepted = rw (accepted-of-check _ (decode-accepted (c .tables) (decide (c .kind) (c .payload)) b (check-of-accepted b (T-true (accepted-state b) ok)))) tt
 
 pub accepted-after : AcceptedAfter
 accepted-after c b ok = go (code c) refl

@@ -2,3 +2,5 @@
 pub mod Frame
 pub mod Call
 pub mod Parts
+pub mod Lengths
+pub mod Accepted

@@ -1,4 +1,4 @@
--- How many words each stage gives: what a frame leaves has room in a state block.
+-- How many words each stage gives: what a frame leaves has room in a state block. Assumes nothing.
 use Prim.Native.Nat.{ℕ, zero, suc, _+_, _-_}
 use mathlib.Core.Path.{_≡_, refl, _∙_}
 use mathlib.Core.Bool.{Bool, true, false, cond}
