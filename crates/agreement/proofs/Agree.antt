@@ -22,7 +22,8 @@ use Rattle.parameters.specs.declared.Decoded.{Decoded}
 use Rattle.parameters.specs.Parameters.{to-lsp, subframe, voice, parameters}
 use Rattle.decoder.specs.Frame.{Buffers, frame-signal, decode}
 use Rattle.agreement.specs.Demand.{Call, FrameValues, delays, pitch-gains, fixed-gains, frequencies, filters, signal-before, samples, All, VoiceWith, PassesParity, DelaysInRange, Alike, Agreement}
-use Rattle.agreement.proofs.Ranges.{delays-good, accepted-after-frame}
+use Rattle.accepted.specs.Accepted.{accepted-after-frame}
+use Rattle.agreement.proofs.Ranges.{delays-good}
 use Rattle.agreement.specs.Run.{code, frame-of, values-of, run}
 use Rattle.agreement.proofs.Runs.{accepted-params, answers-are, frames-are}
 

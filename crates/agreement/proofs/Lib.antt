@@ -1,5 +1,4 @@
 -- Demand 3 and the values, proved: see specs/Demand.antt and specs/Values.antt.
-pub mod Lengths
 pub mod Ranges
 pub mod Runs
 pub mod Agree

@@ -9,13 +9,13 @@ use lib.IntN.{ℤ, pos}
 use lib.ListN.{length, replicate, length-replicate}
 use mir.Facts.{and-yes}
 use Rattle.state.specs.State.{read-params, read, write, fresh, accepted, accepted-state}
-use Rattle.state.specs.Laws.{Sized, read-sized, read-write, write-read, fresh-sized, fresh-accepted, accepted-write, check-of-accepted, accepted-parts}
-use Rattle.decoder.specs.Frame.{decode}
+use Rattle.plc.specs.Kinds.{decide}
+use Rattle.state.specs.Laws.{Sized, read-sized, read-write, write-read, fresh-sized, fresh-accepted, accepted-of-check, check-of-accepted, accepted-parts}
 use Rattle.decoder.specs.Call.{refusal, answer, frame}
+use Rattle.accepted.specs.Lengths.{sized-after}
+use Rattle.accepted.specs.Accepted.{decode-accepted}
 use Rattle.agreement.specs.Demand.{Call, made, number, block, output, answers, values, frames, AcceptedAfter, AnyOutput}
 use Rattle.agreement.specs.Run.{code, frame-of, values-of, run, state-after, block-after, Demand2}
-use Rattle.agreement.proofs.Lengths.{sized-after}
-use Rattle.agreement.proofs.Ranges.{accepted-after-frame}
 
 -- ---- one call on an accepted block
 
@@ -47,12 +47,9 @@ module _ (c : Call) (b : List ℤ) (ok : T (accepted-state b)) where
   pub read-after : read (write (frame-of c (read b) .state)) ≡ frame-of c (read b) .state
   read-after = read-write _ sized
 
-  left-accepted : T (accepted (frame-of c (read b) .state .params))
-  unfolding frame-of decode
-  left-accepted = accepted-after-frame (read b .params) (accepted-params b ok) (c .tables) _
-
   pub frame-accepted : T (accepted-state (write (frame-of c (read b) .state)))
-  frame-accepted = rw (accepted-write (frame-of c (read b) .state) sized (T-true (accepted (frame-of c (read b) .state .params)) left-accepted)) tt
+  unfolding frame-of
+  frame-accepted = rw (accepted-of-check _ (decode-accepted (c .tables) (decide (c .kind) (c .payload)) b (check-of-accepted b (T-true (accepted-state b) ok)))) tt
 
 pub accepted-after : AcceptedAfter
 accepted-after c b ok = go (code c) refl

@@ -1,4 +1,4 @@
--- The last form of a call (01, "The call text and the program"): the total of all its lines, or a refusal whose L is the number of line feeds before the refused line,
+-- The last form of a call (01, "The call text and the program"): the total of all its lines, or a refusal with 9 or 10 whose L is the number of line feeds before the refused line,
 -- and 1. So `line-number`, which goes by the frames, is the number of the line. Assumes nothing.
 use mathlib.Core.Path.{_≡_, refl, ap, sym, _∙_}
 use mathlib.Core.Bool.{Bool, true, false, cond, _||_}
@@ -19,10 +19,13 @@ use Rattle.decoder.specs.Call as Frame
 use Rattle.print.specs.Print.{total, refused}
 use Rattle.tables.specs.Layout.{table-check, scalar}
 use Rattle.tables.specs.declared.Scalar.the-variants.{InitialPreviousPitchDelay}
+use Rattle.state.specs.State.{state-check}
+use Rattle.state.specs.Laws.{fresh-accepted, check-of-accepted}
 use Rattle.words.specs.Words.{words}
 use Rattle.line_step.specs.Step.{Job, Step, stop, framed, counted, taken, line-step}
 use Rattle.call.specs.Call.{line-number, last-form, printed, fresh-job, file-check, output}
 use Rattle.call.specs.Chunk.{to-feed}
+use Rattle.whole_call.specs.Codes.{refuses, refused-with, line-accepted}
 use Rattle.whole_call.specs.Whole.{feedless-rest, feedless-more, no-feed, printed-ended}
 
 -- the number of line feeds
@@ -39,8 +42,8 @@ ended p (b ∷ l) = ended (eqb b 10) l
 pub data Ending (n : ℕ) (text out : List ℕ) : Type 0 where
   -- the last form is the total, with as many frames as there are lines
   with-total : (samples : List ℕ) (lost : ℕ) → out ≡ samples ++ total (n + feeds text) lost → Ending n text out
-  -- or the refusal of the line that stands behind some whole lines
-  with-refusal : (samples before rest : List ℕ) (code : ℕ) → (code ≡ 0 → ⊥) → text ≡ before ++ rest → ended true before ≡ true → 0 < length rest
+  -- or the refusal, with 9 or 10, of the line that stands behind some whole lines
+  with-refusal : (samples before rest : List ℕ) (code : ℕ) → refuses code ≡ true → text ≡ before ++ rest → ended true before ≡ true → 0 < length rest
       → out ≡ samples ++ refused code (n + feeds before + 1) → Ending n text out
 
 -- ---- one line: a frame more where it is taken, and the counts as they were where it is refused
@@ -120,19 +123,19 @@ unfolding last-form line-number feeds
 refused-form c code held h z = rw (ne-eqb code 0 z) (ap (λ (n : ℕ). refused code n) (omega arith))
 
 open-form : (c : Counts) (code : ℕ) (held : List ℕ) → c .frames ≤ 360000 → code ≡ 0 → Ending (c .frames) held (last-form c code held)
-unfolding last-form line-number feeds ended
+unfolding last-form line-number feeds ended refuses
 open-form c code [] h z = with-total [] (c .lost) (rw (eq-eqb code 0 z) (ap (λ (n : ℕ). total n (c .lost)) (omega arith)))
 open-form c code (b ∷ held) h z =
-    with-refusal [] [] (b ∷ held) 9 (λ e. omega arith) refl refl (omega arith)
+    with-refusal [] [] (b ∷ held) 9 refl refl refl (omega arith)
     (rw (eq-eqb code 0 z, ne-eqb (length (b ∷ held)) 0 (λ e. omega arith)) (ap (λ (n : ℕ). refused 9 n) (omega arith)))
 
-pub ending : (t : List ℤ) (job : Job) (held text : List ℕ) → job .code ≡ 0 → job .counts .frames ≤ 360000 → to-feed held ≡ length held
+pub ending : (t : List ℤ) (job : Job) (held text : List ℕ) → table-check t ≡ 0 → state-check (job .block) ≡ 0 → job .code ≡ 0 → job .counts .frames ≤ 360000 → to-feed held ≡ length held
     → Ending (job .counts .frames) (held ++ text) (printed t job held text)
 unfolding printed
-ending t job held [] z k h = rw (append-nil held) (open-form (job .counts) (job .code) held k z)
-ending t job held (b ∷ text) z k h =
+ending t job held [] ht hb z k h = rw (append-nil held) (open-form (job .counts) (job .code) held k z)
+ending t job held (b ∷ text) ht hb z k h =
     rw (eq-eqb (job .code) 0 z)
-    (by (eqb b 10) (eqb (s .job .code) 0) refl refl (λ g f. ending t (s .job) [] text g f no-feed) (λ g. ending t job (held ++ (b ∷ [])) text z k (feedless-more held b h g)))
+    (by (eqb b 10) (eqb (s .job .code) 0) refl refl (λ g f. ending t (s .job) [] text ht (line-accepted t job held hb) g f no-feed) (λ g. ending t job (held ++ (b ∷ [])) text ht hb z k (feedless-more held b h g)))
   where
     s : Step
     s = line-step t job held
@@ -151,7 +154,7 @@ ending t job held (b ∷ text) z k h =
     by true false e g f r =
         let c : s .job .code ≡ 0 → ⊥ = eqb-false (s .job .code) 0 g in
         let w : s .job .counts ≡ job .counts = counting t job held .as-was c in
-        with-refusal (s .text) [] (held ++ (b ∷ text)) (s .job .code) c refl nothing-ended (rw length-append (omega arith))
+        with-refusal (s .text) [] (held ++ (b ∷ text)) (s .job .code) (refused-with t job held ht hb c) refl nothing-ended (rw length-append (omega arith))
         (rw (printed-ended t (s .job) [] text c, w, refused-form (job .counts) (s .job .code) [] k c))
     by false q e g f r = rw (← append-snoc held b text) (r e)
 
@@ -177,6 +180,15 @@ file-check-few file = by (eqb (length file) 3760)
     by true = check-few (words file)
     by false = omega arith
 
+-- tables that are accepted
+checked : (file : List ℕ) → file-check file ≡ 0 → table-check (words file) ≡ 0
+unfolding file-check
+checked file = by (eqb (length file) 3760)
+  where
+    by : (p : Bool) → cond p (table-check (words file)) 1 ≡ 0 → table-check (words file) ≡ 0
+    by true e = e
+    by false e = absurd (omega arith)
+
 -- all that the program prints: samples and a last form, or with tables that are refused code 1 or 2 and line 0 alone
 pub record Ends (file text : List ℕ) : Type 0 where
   pub with-tables : file-check file ≡ 0 → Ending 0 text (output file text)
@@ -186,6 +198,8 @@ pub ends : (file text : List ℕ) → Ends file text
 unfolding output fresh-job
 ends file text =
     record {
-      with-tables = λ e. rw (eq-eqb (file-check file) 0 e) (ending (words file) (fresh-job (words file)) [] text refl (omega arith) no-feed);
+      with-tables = λ e.
+          let h : table-check (words file) ≡ 0 = checked file e in
+          rw (eq-eqb (file-check file) 0 e) (ending (words file) (fresh-job (words file)) [] text h (check-of-accepted _ (fresh-accepted (words file) h)) refl (omega arith) no-feed);
       no-tables = λ n. (rw (ne-eqb (file-check file) 0 n), file-check-few file);
     }
