@@ -1,5 +1,5 @@
 -- What a part of a call leaves fits a job file (`counts-fit` of Job): a line that is not refused is one frame more, lost or not, of 360,000 at most, and has 15 to 37 bytes with its
--- line feed. Assumes nothing.
+-- line feed; and its state is accepted. Assumes nothing.
 use mathlib.Core.Path.{_≡_, refl, sym, ap, _∙_}
 use mathlib.Core.Bool.{Bool, true, false, cond, _||_}
 use mathlib.Core.List.{List, [], _∷_, _++_}
@@ -21,6 +21,8 @@ use Rattle.line_step.specs.Step as LineStep
 use Rattle.call.specs.Chunk.{Part, none, behind, goes-on, part}
 use Rattle.line_step.specs.Laws.{not-line}
 use Rattle.call.specs.Laws.{part-stop}
+use Rattle.state.specs.State.{state-check}
+use Rattle.whole_call.specs.Codes.{line-accepted}
 use Rattle.job.specs.declared.Saved.{Saved}
 use Rattle.job.specs.Job.{counts-fit}
 use Rattle.job.specs.Back.{Small}
@@ -184,6 +186,28 @@ part-unused t job room held (b ∷ l) = by (goes-on job room) (eqb b 10) (part-u
     by true true f g = omega arith
     by true false f g = omega (arith, length-append held (b ∷ []))
     by false q f g = omega (arith, length-append held (b ∷ l))
+
+-- the state that it leaves is accepted, whatever its lines are
+pub part-accepted : (t : List ℤ) (job : Job) (room : ℕ) (held l : List ℕ) → state-check (job .block) ≡ 0 → state-check (part t job room held l .job .block) ≡ 0
+unfolding part behind none
+part-accepted t job room held [] h = h
+part-accepted t job room held (b ∷ l) h =
+    by (goes-on job room) (eqb b 10) (part-accepted t (s .job) (room - length (s .text)) [] l (line-accepted t job held h)) (part-accepted t job room (held ++ (b ∷ [])) l h)
+  where
+    s : Step
+    s = line-step t job held
+
+    A : Part
+    A = part t (s .job) (room - length (s .text)) [] l
+
+    B : Part
+    B = part t job room (held ++ (b ∷ [])) l
+
+    by : (p q : Bool) → state-check (A .job .block) ≡ 0 → state-check (B .job .block) ≡ 0
+        → state-check (cond p (cond q (behind (s .text) A) B) (none job (held ++ (b ∷ l))) .job .block) ≡ 0
+    by true true f g = f
+    by true false f g = g
+    by false q f g = h
 
 -- ---- the place behind it
 

@@ -19,6 +19,7 @@ use Rattle.line_step.specs.Step.{Job, Step, line-step}
 use Rattle.line_step.specs.Laws.{sized}
 use Rattle.call.specs.Call.{last-form, printed, fresh-job, file-check, output}
 use Rattle.call.specs.Chunk as Chunk
+use Rattle.whole_call.specs.Ending.{fresh-checked}
 use Rattle.whole_call.specs.Whole.{with-code, printed-ended, again, lines-made, overlong-made}
 use Rattle.print.specs.Print.{over}
 use Rattle.laws.specs.Lists.{at}
@@ -29,7 +30,7 @@ use Rattle.job.specs.Crc32.{crc32}
 use Rattle.job.specs.Job.{start, pack, counts-fit, answer, read}
 use Rattle.job.specs.Damage.{Bytes, crc32-lt}
 use Rattle.job.specs.Back.{Small, small, pack-read, pack-other}
-use Rattle.job.specs.Fits.{Fits, grown-line, part-unused, part-fits, fits-after}
+use Rattle.job.specs.Fits.{Fits, grown-line, part-unused, part-fits, part-accepted, fits-after}
 use Rattle.job.specs.Part.{going, taken, part}
 use Rattle.job.specs.Part as Part
 
@@ -68,22 +69,23 @@ unfoldable pub put-at : ℕ → List ℕ → List ℕ → List ℕ
 put-at o v out = take o out ++ (v ++ drop (o + length v) out)
 
 -- the forms of the frames that are done stand in the output, and with what the rest of the text prints from this state they are all that is to be printed; the tables are those
--- of this table file, and the job has its CRC-32; and a job file can hold its counts
+-- of this table file, and the job has its CRC-32; a job file can hold its counts, and its state is accepted
 pub record Good (file text all : List ℕ) (b : List ℤ) (p : Saved) (out : List ℕ) : Type 0 where
   pub of-tables : p .tables ≡ crc32 file
   pub fits : counts-fit p ≡ true
+  pub accepted : state-check b ≡ 0
   pub reach : 327 * p .counts .frames ≤ length out
   pub made : all ≡ take (327 * p .counts .frames) out ++ printed (words file) (going b p) [] (drop (p .at) text)
 
 -- a new job, whatever stands in the output: all that is to be printed is what `decode` prints
 pub good-fresh : (file text out : List ℕ) → file-check file ≡ 0 → Good file text (output file text) (fresh-job (words file) .block) (start (crc32 file)) out
 unfolding going fresh-job start output counts-fit
-good-fresh file text out h = record { of-tables = refl; fits = refl; reach = omega arith; made = rw (eq-eqb _ _ h) }
+good-fresh file text out h = record { of-tables = refl; fits = refl; accepted = fresh-checked file h; reach = omega arith; made = rw (eq-eqb _ _ h) }
 
 -- whatever is written behind the place, as by a program that was stopped before it saved its next state
 pub good-behind : (file text all : List ℕ) (b : List ℤ) (p : Saved) (out out′ : List ℕ) → Good file text all b p out → 327 * p .counts .frames ≤ length out′
     → take (327 * p .counts .frames) out′ ≡ take (327 * p .counts .frames) out → Good file text all b p out′
-good-behind file text all b p out out′ good h e = record { of-tables = good .of-tables; fits = good .fits; reach = h; made = good .made ∙ rw e }
+good-behind file text all b p out out′ good h e = record { of-tables = good .of-tables; fits = good .fits; accepted = good .accepted; reach = h; made = good .made ∙ rw e }
 
 -- a job that goes through a state file: with the same tables it is the job that was saved, with tables of another CRC-32 it is refused
 module _ (file text all : List ℕ) (b : List ℤ) (p : Saved) (out : List ℕ) (good : Good file text all b p out)
@@ -91,8 +93,8 @@ module _ (file text all : List ℕ) (b : List ℤ) (p : Saved) (out : List ℕ) 
   has-sum : p .tables < 2 ^ 32
   has-sum = rw (good .of-tables) (crc32-lt file a)
 
-  pub good-file : state-check b ≡ 0 → read (pack b p) (crc32 file) lent ≡ answer 0 p b
-  good-file e = ap (λ (s : ℕ). read (pack b p) s lent) (sym (good .of-tables)) ∙ pack-read b p n w (good .fits) has-sum lent e
+  pub good-file : read (pack b p) (crc32 file) lent ≡ answer 0 p b
+  good-file = ap (λ (s : ℕ). read (pack b p) s lent) (sym (good .of-tables)) ∙ pack-read b p n w (good .fits) has-sum lent (good .accepted)
 
   pub good-other : (other : List ℕ) → crc32 file ≢ crc32 other → read (pack b p) (crc32 other) lent ≡ answer 23 (start 0) lent
   good-other other h = pack-other b p n w (good .fits) has-sum (crc32 other) lent (λ e. h (sym (good .of-tables) ∙ e))
@@ -163,6 +165,7 @@ module _ (file text all : List ℕ) (b : List ℤ) (p : Saved) (out : List ℕ) 
       record {
         of-tables = good .of-tables;
         fits = fits-after p Q (going b p) used (0 + length input) (p .tables) s refl f (omega arith);
+        accepted = part-accepted t (going b p) (min (327 * most) (length forms)) [] input (good .accepted);
         reach = rw k (put-reach o (Q .text) out (good .reach));
         made =
             good .made

@@ -189,6 +189,11 @@ checked file = by (eqb (length file) 3760)
     by true e = e
     by false e = absurd (omega arith)
 
+-- and the state that a call begins in
+pub fresh-checked : (file : List ℕ) → file-check file ≡ 0 → state-check (fresh-job (words file) .block) ≡ 0
+unfolding fresh-job
+fresh-checked file e = check-of-accepted _ (fresh-accepted (words file) (checked file e))
+
 -- all that the program prints: samples and a last form, or with tables that are refused code 1 or 2 and line 0 alone
 pub record Ends (file text : List ℕ) : Type 0 where
   pub with-tables : file-check file ≡ 0 → Ending 0 text (output file text)
@@ -198,8 +203,6 @@ pub ends : (file text : List ℕ) → Ends file text
 unfolding output fresh-job
 ends file text =
     record {
-      with-tables = λ e.
-          let h : table-check (words file) ≡ 0 = checked file e in
-          rw (eq-eqb (file-check file) 0 e) (ending (words file) (fresh-job (words file)) [] text h (check-of-accepted _ (fresh-accepted (words file) h)) refl (omega arith) no-feed);
+      with-tables = λ e. rw (eq-eqb (file-check file) 0 e) (ending (words file) (fresh-job (words file)) [] text (checked file e) (fresh-checked file e) refl (omega arith) no-feed);
       no-tables = λ n. (rw (ne-eqb (file-check file) 0 n), file-check-few file);
     }
