@@ -1,6 +1,6 @@
 -- The base-2 logarithm by the code's steps: of a positive value, its norm and the value shifted by it. Assumes nothing.
-use Prim.Native.Nat.{ℕ, zero, suc, _^_, _≤_, _<_}
-use mathlib.Core.Path.{_≡_, refl, subst}
+use Prim.Native.Nat.{ℕ, zero, suc, _+_, _^_, _≤_, _<_}
+use mathlib.Core.Path.{_≡_, refl, sym, subst}
 use mathlib.Core.Bool.{Bool, true, false}
 use mathlib.Core.List.{List}
 use native.Mathlib.Omega.{arith}
@@ -11,7 +11,9 @@ use lib.Signed.{mag, ltZ}
 use borrow.Author.Tests.{ltb-true}
 use mir.Syntax.{w16}
 use mir.Val.{SFits}
+use Rattle.laws.specs.Lists.{at, at-tab}
 use Rattle.laws.specs.Range.{mag-sub}
+use Rattle.tables.specs.Layout.{log2}
 use Rattle.basic_op.specs.Ops.{l-shl, by-sign, norm-l}
 use Rattle.basic_op.specs.Laws.{sat-id}
 use Rattle.basic_op.specs.Norm.{norm-few, norm-low, norm-high}
@@ -55,3 +57,8 @@ log-none (negsuc n) table p = refl
 
 pub fits-less : (k : ℕ) → k ≤ 30 → SFits w16 (pos 30 -ℤ pos k)
 fits-less k h = record { sfits = lt-of-lt-of-le (mag-sub (pos 30) (pos k) 31 31 (omega arith) (omega arith)) (lit≤ tt) }
+
+-- the table in the block
+pub log2-word : (t : List ℤ) (k n : ℕ) → k < 33 → 1823 + k ≡ n → at t n ≡ at (log2 t) k
+unfolding log2
+log2-word t k n h e = rw (← e) (sym (at-tab (λ (j : ℕ). at t (1823 + j)) 33 k h))

@@ -5,6 +5,7 @@ ghost use mathlib.Core.Path.{_≡_};
 ghost use Prim.Native.Nat.{_^_, _<_, _≤_};
 ghost use lib.IntN.{pos, negsuc, natAbs, _+ℤ_, _-ℤ_, _*ℤ_};
 ghost use lib.Signed.{shrZ, mag};
+ghost use Rattle.tables.specs.Layout.{log2};
 ghost use Rattle.basic_op.specs.Ops.{sat16, sat32, add, sub, l-mult, l-add, l-sub, l-mac, l-msu, mult, extract-h, extract-l, round, l-deposit-h, shl, l-shl, l-shr, l-shr-r, norm-l, low16, lesser, greater, overflow32, l-mult-overflow, l-msu-overflow, round-overflow, l-shl3-overflow};
 ghost use Rattle.basic_op.specs.Oper32b.{split-high-low, join-high-low, multiply-split-by-16, multiply-32-by-16, interpolate-q15, log-fraction, base2-log, base2-power};
 use tables::formula;
@@ -388,19 +389,21 @@ pub struct Log2 {
     pub fraction: i16,
 }
 
-// The logarithm's fraction of a normalized value, 2^30 or more.
-fn log_fraction(m: u32, table: &[i16; 33]) -> i16
+// The logarithm's fraction of a normalized value, 2^30 or more, from the two entries of the block's table that it lies between.
+fn log_fraction(t: &[i16], m: u32) -> i16
     requires { ⌜ (2 ^ 30 ≤ m) × (m < 2 ^ 31) ⌝ }
-    ensures { λ r. ⌜ r ≡ log-fraction m (now (table .entry)) ⌝ }
+    ensures { λ r. ⌜ r ≡ log-fraction m (log2 (now (t .entry))) ⌝ }
 {
     let segment = (m / 33554432) as usize;
     let weight = (m / 1024 % 32768) as i16;
-    extract_h(interpolate_q15(table[segment - 32], table[segment - 31], weight))
+    let entry = tables::word(t, 1791 + segment);
+    let next = tables::word(t, 1792 + segment);
+    extract_h(interpolate_q15(entry, next, weight))
 }
 
-// The base-2 logarithm of a positive value; 0 and 0 of any other.
-pub fn base2_log(value: i32, table: &[i16; 33]) -> Log2
-    ensures { λ r. ⌜ r ≡ base2-log value (now (table .entry)) ⌝ }
+// The base-2 logarithm of a positive value, by the table of the block t; 0 and 0 of any other.
+pub fn base2_log(t: &[i16], value: i32) -> Log2
+    ensures { λ r. ⌜ r ≡ base2-log value (log2 (now (t .entry))) ⌝ }
 {
     if value < 1 {
         return Log2 {
@@ -412,7 +415,7 @@ pub fn base2_log(value: i32, table: &[i16; 33]) -> Log2
     let m = l_shl(value, left) as u32;
     Log2 {
         integer: 30 - left,
-        fraction: log_fraction(m, table),
+        fraction: log_fraction(t, m),
     }
 }
 

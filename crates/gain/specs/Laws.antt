@@ -10,9 +10,8 @@ use mir.Syntax.{w16, w32, w64}
 use mir.Val.{SFits, toZ, ofZ, hbits}
 use mir.Facts.{sfits-widen}
 use Rattle.laws.specs.Back.{keep}
-use Rattle.laws.specs.Lists.{at, at-tab}
+use Rattle.laws.specs.Lists.{at}
 use Rattle.laws.specs.Loops.{steps, steps-none, steps-turn}
-use Rattle.tables.specs.Layout.{log2}
 use Rattle.basic_op.specs.Ops.{sat32, l-mac, l-mult, l-add}
 use Rattle.basic_op.specs.Laws.{sat-id, sat-sum}
 use Rattle.gain.specs.Gain.{energy}
@@ -79,6 +78,3 @@ module _ (code : List ℤ) {s : ℤ} (e : Squares code 40 s) where
 
 -- ---- the logarithm's table: entry k is word 1823 + k of the block
 
-pub log2-word : (t : List ℤ) (k n : ℕ) → k < 33 → 1823 + k ≡ n → at t n ≡ at (log2 t) k
-unfolding log2
-log2-word t k n h e = rw (← e) (sym (at-tab (λ (j : ℕ). at t (1823 + j)) 33 k h))

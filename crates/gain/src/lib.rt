@@ -3,12 +3,11 @@
 ghost use mathlib.Core.Path.{_≡_};
 ghost use Prim.Native.Nat.{_^_, _<_, _≤_};
 ghost use lib.IntN.{_*ℤ_};
-ghost use Rattle.tables.specs.Layout.{gain-ga, gain-gb, log2};
+ghost use Rattle.tables.specs.Layout.{gain-ga, gain-gb};
 ghost use Rattle.basic_op.specs.Ops.{add, l-add};
-ghost use Rattle.basic_op.specs.Oper32b.{log-fraction, base2-log};
 ghost use Rattle.gain.specs.Gain.{sharpening, energy, mean-and-energy, prediction, log2-gain, predict, row-ga, row-gb, fixed-gain-of, gain-error-of, push, decode, conceal-pitch-gain, conceal-fixed-gain, error-sum, conceal-error, conceal};
-use basic_op::Log2;
 use basic_op::add;
+use basic_op::base2_log;
 use basic_op::base2_power;
 use basic_op::extract_h;
 use basic_op::extract_l;
@@ -74,41 +73,11 @@ fn energy(code: [i16; 40]) -> i32
     sat32(sum * 2)
 }
 
-// The logarithm's fraction of a normalized value, 2^30 or more, from the two entries that it lies between.
-fn log_fraction(t: &[i16], m: u32) -> i16
-    requires { ⌜ (2 ^ 30 ≤ m) × (m < 2 ^ 31) ⌝ }
-    ensures { λ r. ⌜ r ≡ log-fraction m (log2 (now (t .entry))) ⌝ }
-{
-    let segment = (m / 33554432) as usize;
-    let weight = (m / 1024 % 32768) as i16;
-    let entry = tables::word(t, 1791 + segment);
-    let next = tables::word(t, 1792 + segment);
-    extract_h(interpolate_q15(entry, next, weight))
-}
-
-// The base-2 logarithm by the block's table, as `base2_log` has it, without a copy of the table.
-fn log(t: &[i16], value: i32) -> Log2
-    ensures { λ r. ⌜ r ≡ base2-log value (log2 (now (t .entry))) ⌝ }
-{
-    if value < 1 {
-        return Log2 {
-            integer: 0,
-            fraction: 0,
-        };
-    }
-    let left = norm_l(value);
-    let m = l_shl(value, left) as u32;
-    Log2 {
-        integer: 30 - left,
-        fraction: log_fraction(t, m),
-    }
-}
-
 // The mean energy less the codevector's, in dB.
 fn mean_and_energy(t: &[i16], code: [i16; 40]) -> i32
     ensures { λ r. ⌜ r ≡ mean-and-energy (now (t .entry)) code ⌝ }
 {
-    let e = log(t, energy(code));
+    let e = base2_log(t, energy(code));
     let scale = scalars(t, Scalar::GainPredictionLogScale);
     let mantissa = scalars(t, Scalar::GainPredictionMeanEnergyMantissa);
     let multiplier = scalars(t, Scalar::GainPredictionMeanEnergyMultiplier);
@@ -196,7 +165,7 @@ fn fixed_gain(p: Predicted, g: i32) -> i16
 fn gain_error(t: &[i16], g: i32) -> i16
     ensures { λ r. ⌜ r ≡ gain-error-of (now (t .entry)) g ⌝ }
 {
-    let e = log(t, g);
+    let e = base2_log(t, g);
     let l = join_high_low(sub(e.integer, 13), e.fraction);
     let factor = scalars(t, Scalar::GainUpdateLog2ToDb);
     mult(extract_h(l_shl(l, 13)), factor)

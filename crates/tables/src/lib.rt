@@ -4,7 +4,7 @@ ghost use mathlib.Core.Path.{_≡_};
 ghost use Prim.Native.Nat.{ℕ, _+_, _<_, _≤_};
 ghost use lib.ListN.{length};
 ghost use Rattle.laws.specs.Lists.{at, tab};
-ghost use Rattle.tables.specs.Layout.{row, lsp-cb1, lsp-cb2, lsp-ma, lsp-ma-sum, lsp-ma-sum-inv, b30, gain-ga, gain-gb, map-ga, map-gb, log2, initial-lsp, place, scalar, table-check};
+ghost use Rattle.tables.specs.Layout.{row, lsp-cb1, lsp-cb2, lsp-ma, lsp-ma-sum, lsp-ma-sum-inv, b30, gain-ga, gain-gb, map-ga, map-gb, initial-lsp, place, scalar, table-check};
 
 pub mod formula;
 pub mod text;
@@ -169,15 +169,6 @@ pub fn map_gb(t: &[i16], i: u16) -> i16
     ensures { λ r. ⌜ r ≡ map-gb (now (t .entry)) i ⌝ }
 {
     word(t, 1807 + (i as usize))
-}
-
-// The base-2 logarithm table (clause 3.9.1).
-pub fn log2(t: &[i16]) -> [i16; 33]
-    ensures { λ r. ⌜ r ≡ log2 (now (t .entry)) ⌝ }
-{
-    let mut out = [0i16; 33];
-    words(t, 1823, &mut out);
-    out
 }
 
 // The LSP vector of the frame before the first (clause 3.2.5).

@@ -9,7 +9,7 @@ use Rattle.laws.specs.Back.{came, via}
 use Rattle.gain.proofs.gain_error.Statement.{statement}
 use Rattle.gain.proofs.gain_error.Tie as tie
 
-parts : (c : tie.After-log) → (mag (c .log .result .integer) < 32768) × (mag (c .log .result .fraction) < 32768)
+parts : (c : tie.After-base2-log) → (mag (c .base2-log .result .integer) < 32768) × (mag (c .base2-log .result .fraction) < 32768)
 parts c = search needs
 
 returns : tie.Need-returns
@@ -23,7 +23,7 @@ returns c =
     let c7 = c6 .before in
     let c8 = c7 .before in
     let c9 = c8 .before in
-    let k = c8 .log in
+    let k = c8 .base2-log in
     let p = parts c8 in
     rw (
       came w16 (c .mult) ∙ c .mult .ensures,
