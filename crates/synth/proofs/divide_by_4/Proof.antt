@@ -1,14 +1,13 @@
 -- `synth::divide_by_4` meets its contract: before turn n the first n words are divided.
 use Prim.Native.Nat.{_-_, _^_, _≤_}
 use mathlib.Core.Path.{_≡_, refl, ap, _∙_}
-use mathlib.Core.List.{List}
 use native.Mathlib.Omega.{arith}
 use borrow.Author.Needs.{needs}
 use lib.IntN.{ℤ}
 use lib.ListN.{length, length-set}
 use lib.Signed.{shrZ}
 use mir.Syntax.{w16}
-use Rattle.laws.specs.Lists.{at, filled, filled-none, fill, filled-at, filled-map}
+use Rattle.laws.specs.Lists.{at, filled, filled-none, fill, filled-next, filled-map}
 use Rattle.laws.specs.Back.{via1}
 use Rattle.synth.specs.Synth.{divide-by-4}
 use Rattle.synth.proofs.divide_by_4.Statement.{statement}
@@ -24,7 +23,7 @@ loop-again : tie.Need-loop-again Inv-loop μ-loop
 loop-again c =
     let l = c .before .before .before .loop in
     let r = via1 w16 w16 (λ x. shrZ x (2 ^ 2)) (at (l .exc) (l .n)) (c .sar16 .result) (c .before .sar16-arg .given) (c .sar16 .ok) (c .sar16 .ensures) in
-    (fill _ _ _ _ _ (search needs) (l .inv .0) (r ∙ ap (λ (z : ℤ). shrZ z (2 ^ 2)) (ap (λ (x : List ℤ). at x _) (l .inv .0) ∙ filled-at _ _ _)), (search needs, (l .inv .1 .1 .0, simp length-set (l .inv .1 .1 .1))))
+    (fill _ _ _ _ _ (search needs) (l .inv .0) (r ∙ ap (λ (z : ℤ). shrZ z (2 ^ 2)) (filled-next _ _ _ _ (l .inv .0))), (search needs, (l .inv .1 .1 .0, simp length-set (l .inv .1 .1 .1))))
 
 returns : tie.Need-returns Inv-loop μ-loop
 unfolding divide-by-4
