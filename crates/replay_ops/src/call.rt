@@ -1,8 +1,8 @@
 // One call of an operator by its number in the list.
-use crate::hex::pattern;
-use crate::hex::sign_extended;
-use crate::hex::signed;
-use crate::hex::word;
+use crate::bits::pattern;
+use crate::bits::sign_extended;
+use replay::hex::signed;
+use replay::hex::word;
 
 pub struct Results {
     pub first: u32,

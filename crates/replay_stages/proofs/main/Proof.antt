@@ -1,6 +1,6 @@
 -- `replay_stages::main` ends: each line leaves fewer that may follow.
 use Prim.Native.Nat.{ℕ}
-use mathlib.Core.Path.{_≡_, refl}
+use mathlib.Core.Path.{_≡_}
 use borrow.Author.Needs.{needs}
 use Rattle.replay_stages.proofs.main.Statement.{statement}
 use Rattle.replay_stages.proofs.main.Tie as tie
