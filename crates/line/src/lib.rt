@@ -79,7 +79,7 @@ fn form(text: &[u8], opening: &[u8], n: usize) -> bool
 }
 
 // The value of a digit; 0 of any other byte.
-fn value(b: u8) -> u8
+pub fn value(b: u8) -> u8
     ensures { λ r. ⌜ (r ≡ value b) × (r < 16) ⌝ }
 {
     if b < 48 {

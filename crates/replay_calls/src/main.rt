@@ -98,14 +98,6 @@ fn turn(
     }
 }
 
-// How many turns, or calls, may follow.
-fn rest(most: u32, more: bool) -> u32
-    requires { ⌜ 0 < most ⌝ }
-    ensures { λ r. ⌜ r < most ⌝ }
-{
-    if more { most - 1 } else { 0 }
-}
-
 fn write_form(form: &[u8; 46], n: usize)
     requires { ⌜ n ≤ 46 ⌝ }
 {
@@ -138,7 +130,7 @@ fn replay(t: &[i16], b: &mut [i16], counts: Counts, text: &[u8], size: usize, ou
     let mut most: u32 = 4294967295;
     while 0 < most {
         p = turn(t, b, p, text, size, input, out);
-        most = rest(most, p.more);
+        most = replay::rest(most, p.more);
     }
     end(p, input);
 }
@@ -190,6 +182,6 @@ fn main() {
     let mut most: u32 = 4294967295;
     while 0 < most {
         let more = case(&t, &mut b, text, out);
-        most = rest(most, more);
+        most = replay::rest(most, more);
     }
 }

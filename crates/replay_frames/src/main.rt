@@ -2,48 +2,44 @@
 // hexadecimal digits (oracle/README.md has the layout). T: the tables. N: a call from the fresh state. S: a call from these words.
 // F: kind, payload, the 80 samples. E: the state here. R: arguments that are refused or not, with the answers.
 // Two decoders run side by side: the first through the whole call, the second cut at each E line and resumed from the words of that line.
-ghost use Prim.Native.Nat.{_<_};
+ghost use Prim.Native.Nat.{_≤_};
 
-mod hex;
-mod part;
 mod refusals;
-mod tally;
+mod rows;
 
 use libc::STDIN_FILENO;
+use replay::part;
+use replay::tally;
+
+// How many of the ten bytes of a payload a kind has: 10, 2, 0 and 0.
+fn size(kind: u32, most: usize) -> usize
+    ensures { λ r. ⌜ r ≤ most ⌝ }
+{
+    if kind == 0 {
+        return most;
+    }
+    if kind == 1 && 2 <= most { 2 } else { 0 }
+}
 
 // A frame with as much of the payload as its kind has.
-fn frame(t: &[i16], b: &mut [i16], kind: u32, payload: [u8; 10], out: &mut [i16]) -> u32 {
-    if kind == 0 {
-        return decoder::frame(t, b, kind, &payload, out);
-    }
-    if kind == 1 {
-        let sid = [payload[0], payload[1]];
-        return decoder::frame(t, b, kind, &sid, out);
-    }
-    decoder::frame(t, b, kind, &payload[..0], out)
+fn frame(t: &[i16], b: &mut [i16], kind: u32, payload: &[u8], out: &mut [i16]) -> u32 {
+    let n = size(kind, payload.len());
+    decoder::frame(t, b, kind, &payload[0..n], out)
 }
 
 // One frame by one decoder; `row` counts its samples.
-fn decode(t: &[i16], b: &mut [i16], f: &[i16], row: usize, tally: &mut [u32; 18])
-    requires { ⌜ row < 9 ⌝ }
-{
+fn decode(t: &[i16], b: &mut [i16], f: &[i16], row: usize, tally: &mut [u32; 64]) {
     let mut out = [0i16; 80];
     let kind = part::number(f, 0) as u32;
-    let code = frame(t, b, kind, part::payload(f), &mut out);
-    tally::count(tally, tally::ANSWERS, code != 0);
+    let payload = part::payload(f);
+    let code = frame(t, b, kind, &payload, &mut out);
+    tally::count(tally, rows::ANSWERS, code != 0);
     tally::words(tally, row, f, 11, &out);
-}
-
-// Fills `words` from the next bytes, as many as `text` has room for: a line without its letter. False where the input ends before.
-fn read_words(text: &mut [u8], words: &mut [i16]) -> bool {
-    let n = io::read_full(STDIN_FILENO, text);
-    hex::words(text, words);
-    n == text.len()
 }
 
 fn table_line(t: &mut [i16; 1880]) -> bool {
     let mut text = [0u8; 7521];
-    read_words(&mut text, t)
+    replay::read_words(&mut text, t)
 }
 
 // A call begins in the fresh state.
@@ -51,24 +47,24 @@ fn fresh_line(
     t: &[i16; 1880],
     whole: &mut [i16; 234],
     resumed: &mut [i16; 234],
-    tally: &mut [u32; 18],
+    tally: &mut [u32; 64],
 ) -> bool {
     let mut text = [0u8; 1];
     let n = io::read_full(STDIN_FILENO, &mut text);
     let first = state::fresh_state(t, whole);
     let second = state::fresh_state(t, resumed);
-    tally::count(tally, tally::CALLS, false);
-    tally::count(tally, tally::ANSWERS, first != 0);
-    tally::count(tally, tally::ANSWERS, second != 0);
+    tally::count(tally, rows::CALLS, false);
+    tally::count(tally, rows::ANSWERS, first != 0);
+    tally::count(tally, rows::ANSWERS, second != 0);
     n == 1
 }
 
 // A call begins in the state of the line.
-fn state_line(whole: &mut [i16; 234], resumed: &mut [i16; 234], tally: &mut [u32; 18]) -> bool {
+fn state_line(whole: &mut [i16; 234], resumed: &mut [i16; 234], tally: &mut [u32; 64]) -> bool {
     let mut text = [0u8; 937];
-    let more = read_words(&mut text, whole);
-    part::fill(whole, resumed);
-    tally::count(tally, tally::CALLS, false);
+    let more = replay::read_words(&mut text, whole);
+    part::fill(whole, 0, resumed);
+    tally::count(tally, rows::CALLS, false);
     more
 }
 
@@ -76,47 +72,40 @@ fn frame_line(
     t: &[i16; 1880],
     whole: &mut [i16; 234],
     resumed: &mut [i16; 234],
-    tally: &mut [u32; 18],
+    tally: &mut [u32; 64],
 ) -> bool {
     let mut text = [0u8; 365];
     let mut f = [0i16; 91];
-    if read_words(&mut text, &mut f) {
-        tally::count(tally, tally::FRAMES, false);
-        decode(t, whole, &f, tally::WHOLE_SAMPLES, tally);
-        decode(t, resumed, &f, tally::RESUMED_SAMPLES, tally);
+    if replay::read_words(&mut text, &mut f) {
+        tally::count(tally, rows::FRAMES, false);
+        decode(t, whole, &f, rows::WHOLE_SAMPLES, tally);
+        decode(t, resumed, &f, rows::RESUMED_SAMPLES, tally);
         return true;
     }
     false
 }
 
 // The state that both decoders must have here, and from which the second goes on.
-fn end_line(whole: &[i16; 234], resumed: &mut [i16; 234], tally: &mut [u32; 18]) -> bool {
+fn end_line(whole: &[i16; 234], resumed: &mut [i16; 234], tally: &mut [u32; 64]) -> bool {
     let mut text = [0u8; 937];
     let mut s = [0i16; 234];
-    if read_words(&mut text, &mut s) {
-        tally::words(tally, tally::WHOLE_STATES, &s, 0, whole);
-        tally::words(tally, tally::RESUMED_STATES, &s, 0, resumed);
-        part::fill(&s, resumed);
+    if replay::read_words(&mut text, &mut s) {
+        tally::words(tally, rows::WHOLE_STATES, &s, 0, whole);
+        tally::words(tally, rows::RESUMED_STATES, &s, 0, resumed);
+        part::fill(&s, 0, resumed);
         return true;
     }
     false
 }
 
-fn refusal_line(tally: &mut [u32; 18]) -> bool {
+fn refusal_line(tally: &mut [u32; 64]) -> bool {
     let mut text = [0u8; 53];
     let mut words = [0i16; 13];
-    if read_words(&mut text, &mut words) {
+    if replay::read_words(&mut text, &mut words) {
         refusals::line(&words, tally);
         return true;
     }
     false
-}
-
-// The letter of the next line; 0 at the end.
-fn letter() -> u8 {
-    let mut byte = [0u8; 1];
-    let n = io::read_full(STDIN_FILENO, &mut byte);
-    byte[0]
 }
 
 // The next line. False at the end.
@@ -124,9 +113,9 @@ fn line(
     t: &mut [i16; 1880],
     whole: &mut [i16; 234],
     resumed: &mut [i16; 234],
-    tally: &mut [u32; 18],
+    tally: &mut [u32; 64],
 ) -> bool {
-    match letter() {
+    match replay::letter() {
         b'T' => table_line(t),
         b'N' => fresh_line(t, whole, resumed, tally),
         b'S' => state_line(whole, resumed, tally),
@@ -137,24 +126,16 @@ fn line(
     }
 }
 
-// How many lines may follow.
-fn rest(most: u32, more: bool) -> u32
-    requires { ⌜ 0 < most ⌝ }
-    ensures { λ r. ⌜ r < most ⌝ }
-{
-    if more { most - 1 } else { 0 }
-}
-
 // All lines, up to 2^32 - 1.
 fn main() {
-    let mut tally = [0u32; 18];
+    let mut tally = [0u32; 64];
     let mut t = [0i16; 1880];
     let mut whole = [0i16; 234];
     let mut resumed = [0i16; 234];
     let mut most: u32 = 4294967295;
     while 0 < most {
         let more = line(&mut t, &mut whole, &mut resumed, &mut tally);
-        most = rest(most, more);
+        most = replay::rest(most, more);
     }
-    tally::print(tally);
+    rows::print(&tally);
 }

@@ -2,8 +2,9 @@
 // A line's words: length of the tables and initial delay, length of the state, predictor and delay, kind, lengths of the payload, of the
 // samples and of the receiver; then the answers of table check, fresh state, frame and fields.
 ghost use Prim.Native.Nat.{_≤_};
-use crate::part;
-use crate::tally;
+use crate::rows;
+use replay::part;
+use replay::tally;
 
 // A length that the line gives, and no more than there is room for.
 fn length(line: &[i16], at: usize, most: usize) -> usize
@@ -61,36 +62,45 @@ fn fields(line: &[i16], payload: &[u8], receiver: &mut [u16]) -> u32 {
     bitstream::fields(&payload[0..k], &mut receiver[0..m])
 }
 
+// Compares an answer with the number of a place.
+fn answer(line: &[i16], at: usize, found: u32, tally: &mut [u32; 64]) {
+    tally::count(
+        tally,
+        rows::REFUSALS,
+        part::number(line, at) as u32 != found,
+    );
+}
+
 // A refused call leaves the state as it was.
-fn same_state(before: [i16; 250], after: [i16; 250], tally: &mut [u32; 18]) {
-    tally::words(tally, tally::UNCHANGED, &before, 0, &after);
+fn same_state(before: [i16; 250], after: [i16; 250], tally: &mut [u32; 64]) {
+    tally::words(tally, rows::UNCHANGED, &before, 0, &after);
 }
 
 // A refused call leaves the samples as they were.
-fn same_samples(out: [i16; 100], tally: &mut [u32; 18]) {
+fn same_samples(out: [i16; 100], tally: &mut [u32; 64]) {
     let sevens = [7i16; 100];
-    tally::words(tally, tally::UNCHANGED, &sevens, 0, &out);
+    tally::words(tally, rows::UNCHANGED, &sevens, 0, &out);
 }
 
-fn fresh_state_call(line: &[i16], tally: &mut [u32; 18]) {
+fn fresh_state_call(line: &[i16], tally: &mut [u32; 64]) {
     let t = tables_of(line);
     let before = state_of(line);
     let mut b = before;
     let code = fresh_state(line, &t, &mut b);
-    tally::answer(tally, tally::REFUSALS, line, 10, code);
+    answer(line, 10, code, tally);
     if code != 0 {
         same_state(before, b, tally);
     }
 }
 
-fn frame_call(line: &[i16], tally: &mut [u32; 18]) {
+fn frame_call(line: &[i16], tally: &mut [u32; 64]) {
     let t = tables_of(line);
     let before = state_of(line);
     let payload = [0u8; 16];
     let mut b = before;
     let mut out = [7i16; 100];
     let code = frame(line, &t, &mut b, &payload, &mut out);
-    tally::answer(tally, tally::REFUSALS, line, 11, code);
+    answer(line, 11, code, tally);
     if code != 0 {
         same_state(before, b, tally);
         same_samples(out, tally);
@@ -98,18 +108,12 @@ fn frame_call(line: &[i16], tally: &mut [u32; 18]) {
 }
 
 // One line of arguments.
-pub(crate) fn line(words: &[i16], tally: &mut [u32; 18]) {
+pub(crate) fn line(words: &[i16], tally: &mut [u32; 64]) {
     let t = tables_of(words);
     let payload = [0u8; 16];
     let mut receiver = [0u16; 20];
-    tally::answer(tally, tally::REFUSALS, words, 9, table_check(words, &t));
+    answer(words, 9, table_check(words, &t), tally);
     fresh_state_call(words, tally);
     frame_call(words, tally);
-    tally::answer(
-        tally,
-        tally::REFUSALS,
-        words,
-        12,
-        fields(words, &payload, &mut receiver),
-    );
+    answer(words, 12, fields(words, &payload, &mut receiver), tally);
 }

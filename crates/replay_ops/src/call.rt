@@ -1,8 +1,8 @@
 // One call of an operator by its number in the list.
-use crate::hex::pattern;
-use crate::hex::sign_extended;
-use crate::hex::signed;
-use crate::hex::word;
+use crate::bits::pattern;
+use crate::bits::sign_extended;
+use replay::hex::signed;
+use replay::hex::word;
 
 pub struct Results {
     pub first: u32,
@@ -44,21 +44,21 @@ fn halves(high: u32, low: u32) -> i64 {
 }
 
 // The made-up logarithm table of the list.
-fn log_table() -> [i16; 33] {
-    let mut table = [0i16; 33];
+fn log_block() -> [i16; 1880] {
+    let mut block = [0i16; 1880];
     let mut i = 0;
     let mut v: i32 = -9000;
     while i < 33 {
-        table[i] = basic_op::extract_l(v);
+        block[1823 + i] = basic_op::extract_l(v);
         v = basic_op::l_add(v, (62 * i + 38) as i32);
         i += 1;
     }
-    table
+    block
 }
 
 fn log(x: i32) -> Results {
-    let table = log_table();
-    let l = basic_op::base2_log(x, &table);
+    let block = log_block();
+    let l = basic_op::base2_log(&block, x);
     two(l.integer, l.fraction)
 }
 

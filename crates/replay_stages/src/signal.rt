@@ -1,8 +1,11 @@
 // The adaptive vector, the excitation and the samples: clauses 3.7.1, 3.10 and 4.1.6.
 // `t`: the tables; `f`: the words of the frame's line; `at`: the place of the subframe there.
-ghost use Prim.Native.Nat.{_≤_};
-use crate::part;
-use crate::tally;
+ghost use Prim.Native.Nat.{_+_, _≤_};
+ghost use lib.ListN.{length};
+use crate::block;
+use crate::rows;
+use replay::part;
+use replay::tally;
 
 // The place of a subframe in the excitation.
 fn start(second: bool) -> usize
@@ -12,14 +15,11 @@ fn start(second: bool) -> usize
 }
 
 // Writes forty words of the line over a subframe.
-fn put(f: &[i16], at: usize, start: usize, exc: &mut [i16; 234])
-    requires { ⌜ start ≤ 194 ⌝ }
+fn put(f: &[i16], at: usize, start: usize, exc: &mut [i16])
+    requires { ⌜ start + 40 ≤ length (now exc) ⌝ }
 {
-    let mut n = 0;
-    while n < 40 {
-        exc[start + n] = part::word(f, at, n);
-        n += 1;
-    }
+    let end = start + 40;
+    part::fill(f, at, &mut exc[start..end]);
 }
 
 // The adaptive vector; the one of the line stands there afterwards.
@@ -29,7 +29,7 @@ fn adaptive_vector(
     at: usize,
     second: bool,
     exc: &mut [i16; 234],
-    tally: &mut [u32; 46],
+    tally: &mut [u32; 64],
 )
     requires { ⌜ at ≤ 257 ⌝ }
 {
@@ -41,16 +41,16 @@ fn adaptive_vector(
         part::word(f, at, 0),
         part::word(f, at, 1),
     );
-    let v = part::vector(exc, start(second));
-    tally::words(tally, tally::VECTOR, f, at + 87, &v);
+    let v = block::vector(exc, start(second));
+    tally::words(tally, rows::VECTOR, f, at + 87, &v);
     put(f, at + 87, start(second), exc);
 }
 
 // The excitation; the one of the line stands there afterwards.
-fn excitation(f: &[i16], at: usize, second: bool, exc: &mut [i16; 234], tally: &mut [u32; 46])
+fn excitation(f: &[i16], at: usize, second: bool, exc: &mut [i16; 234], tally: &mut [u32; 64])
     requires { ⌜ at ≤ 257 ⌝ }
 {
-    let code = part::vector(f, at + 44);
+    let code = block::vector(f, at + 44);
     synth::excitation(
         exc,
         second,
@@ -58,8 +58,8 @@ fn excitation(f: &[i16], at: usize, second: bool, exc: &mut [i16; 234], tally: &
         part::word(f, at, 84),
         part::word(f, at, 85),
     );
-    let u = part::vector(exc, start(second));
-    tally::words(tally, tally::EXCITATION, f, at + 127, &u);
+    let u = block::vector(exc, start(second));
+    tally::words(tally, rows::EXCITATION, f, at + 127, &u);
     put(f, at + 127, start(second), exc);
 }
 
@@ -87,7 +87,7 @@ fn subframe(
     at: usize,
     second: bool,
     before: Signal,
-    tally: &mut [u32; 46],
+    tally: &mut [u32; 64],
 ) -> Signal
     requires { ⌜ at ≤ 257 ⌝ }
 {
@@ -95,26 +95,26 @@ fn subframe(
     let mut speech = before.speech;
     adaptive_vector(t, f, at, second, &mut exc, tally);
     excitation(f, at, second, &mut exc, tally);
-    let a = part::coefficients(f, coefficients(second));
+    let a = block::coefficients(f, coefficients(second));
     let over = saturated(a, exc, second, speech);
-    tally::number(tally, tally::SYNTHESIZE, f, at + 167, over as u16);
+    tally::number(tally, rows::SYNTHESIZE, f, at + 167, over as u16);
     synth::reconstruct(&a, &mut exc, second, &mut speech);
     Signal { exc, speech }
 }
 
 // The samples of a frame, and the excitation and the samples that it leaves.
-fn left(f: &[i16], signal: Signal, tally: &mut [u32; 46]) {
+fn left(f: &[i16], signal: Signal, tally: &mut [u32; 64]) {
     let exc = signal.exc;
     let speech = signal.speech;
-    tally::tail(tally, tally::RECONSTRUCT, f, 425, &speech, 10);
-    tally::tail(tally, tally::RECONSTRUCT, f, 575, &exc, 80);
-    tally::tail(tally, tally::RECONSTRUCT, f, 729, &speech, 80);
+    tally::tail(tally, rows::RECONSTRUCT, f, 425, &speech, 10);
+    tally::tail(tally, rows::RECONSTRUCT, f, 575, &exc, 80);
+    tally::tail(tally, rows::RECONSTRUCT, f, 729, &speech, 80);
 }
 
-pub(crate) fn frame(t: &[i16], s: &[i16], f: &[i16], tally: &mut [u32; 46]) {
+pub(crate) fn frame(t: &[i16], s: &[i16], f: &[i16], tally: &mut [u32; 64]) {
     let before = Signal {
-        exc: part::excitation(s),
-        speech: part::speech(s),
+        exc: block::excitation(s),
+        speech: block::speech(s),
     };
     let first = subframe(t, f, 89, false, before, tally);
     let second = subframe(t, f, 257, true, first, tally);

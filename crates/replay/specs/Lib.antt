@@ -1,0 +1,3 @@
+-- The definitions that the contracts of `replay` cite, and their laws.
+pub mod Replay
+pub mod Laws
