@@ -58,7 +58,7 @@ log-none (negsuc n) table p = refl
 pub fits-less : (k : ℕ) → k ≤ 30 → SFits w16 (pos 30 -ℤ pos k)
 fits-less k h = record { sfits = lt-of-lt-of-le (mag-sub (pos 30) (pos k) 31 31 (omega arith) (omega arith)) (lit≤ tt) }
 
--- the table in the block
+-- entry k of the logarithm's table is word 1823 + k of the block
 pub log2-word : (t : List ℤ) (k n : ℕ) → k < 33 → 1823 + k ≡ n → at t n ≡ at (log2 t) k
 unfolding log2
 log2-word t k n h e = rw (← e) (sym (at-tab (λ (j : ℕ). at t (1823 + j)) 33 k h))

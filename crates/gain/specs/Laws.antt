@@ -75,6 +75,3 @@ module _ (code : List ℤ) {s : ℤ} (e : Squares code 40 s) where
   pub energy-is : sat32 (s *ℤ pos 2) ≡ energy code
   unfolding energy
   energy-is = rw twice-is (e .twice)
-
--- ---- the logarithm's table: entry k is word 1823 + k of the block
-

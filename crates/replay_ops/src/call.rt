@@ -43,7 +43,7 @@ fn halves(high: u32, low: u32) -> i64 {
     signed(high) as i64 * 4294967296 + low as i64
 }
 
-// The made-up logarithm table of the list.
+// A table block with the made-up logarithm table of the list.
 fn log_block() -> [i16; 1880] {
     let mut block = [0i16; 1880];
     let mut i = 0;

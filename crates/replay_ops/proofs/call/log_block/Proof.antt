@@ -1,14 +1,14 @@
--- `replay_ops::call::log_table` is safe: 33 entries are set.
+-- `replay_ops::call::log_block` is safe: 33 words are set.
 use Prim.Native.Nat.{_-_, _≤_}
 use borrow.Author.Needs.{needs}
-use Rattle.replay_ops.proofs.call.log_table.Statement.{statement}
-use Rattle.replay_ops.proofs.call.log_table.Tie as tie
+use Rattle.replay_ops.proofs.call.log_block.Statement.{statement}
+use Rattle.replay_ops.proofs.call.log_block.Tie as tie
 
 abbrev Inv-loop : tie.InvT-loop
-Inv-loop table₀ i₀ v₀ table i v = i ≤ 33
+Inv-loop block₀ i₀ v₀ block i v = i ≤ 33
 
 abbrev μ-loop : tie.MeasureT-loop
-μ-loop table₀ i₀ v₀ table i v = 33 - i
+μ-loop block₀ i₀ v₀ block i v = 33 - i
 
 loop-holds : tie.Need-loop-holds Inv-loop μ-loop
 loop-holds c = search needs
@@ -16,11 +16,14 @@ loop-holds c = search needs
 extract-l-requires : tie.Need-extract-l-requires Inv-loop μ-loop
 extract-l-requires c κs = search needs
 
-mul-table : tie.Need-mul-table Inv-loop μ-loop
-mul-table c = search needs
+add-block : tie.Need-add-block Inv-loop μ-loop
+add-block c = search needs
 
-array-set-from-table : tie.Need-array-set-from-table Inv-loop μ-loop
-array-set-from-table c = search needs
+mul-block : tie.Need-mul-block Inv-loop μ-loop
+mul-block c = search needs
+
+array-set-from-block : tie.Need-array-set-from-block Inv-loop μ-loop
+array-set-from-block c = search needs
 
 mul-l-add : tie.Need-mul-l-add Inv-loop μ-loop
 mul-l-add c = search needs
@@ -46,16 +49,17 @@ loop-again c = search needs
 returns : tie.Need-returns Inv-loop μ-loop
 returns c = search needs
 
-pub log-table-spec : {M : Type 1} → statement M
-log-table-spec =
+pub log-block-spec : {M : Type 1} → statement M
+log-block-spec =
     tie.close
     (tie.spec
     Inv-loop
     μ-loop
     loop-holds
     extract-l-requires
-    mul-table
-    array-set-from-table
+    add-block
+    mul-block
+    array-set-from-block
     mul-l-add
     add-l-add
     cast-l-add
