@@ -8,31 +8,14 @@ use native.Mathlib.Nat.{mod-lt, mod-mod}
 use lib.Dec.{T, eqb, leb, ltb, lit<, lit≤}
 use lib.IntN.{ℤ, pos, negsuc, natAbs, _+ℤ_, _-ℤ_, _*ℤ_}
 use lib.Signed.{ltZ, leZ}
-use borrow.Author.Tests.{lt-ltb, le-ltb, ltb-true, ltb-false, eqb-true, eqb-false}
+use borrow.Author.Tests.{lt-ltb, le-ltb, ltb-true, ltb-false}
 use mir.Syntax.{w16}
 use mir.Val.{SFits}
 use mir.Facts.{and-yes, yes-and, leb-yes, yes-leb, eqb-yes, sfits-lit}
-use Rattle.laws.specs.Loops.{run}
+use Rattle.laws.specs.Loops.{every, every-at, run}
 use Rattle.adaptive.specs.declared.Delay.{Delay}
 use Rattle.basic_op.specs.Ops.{lesser}
 use Rattle.adaptive.specs.Adaptive.{decode-t1, decode-t2, t-min, carried, limited, nat, increased, first, second, erased, phase, lag, interpolate, adaptive-vector}
-
--- ---- a test of every number below n, computed
-
-unfoldable pub every : ℕ → (ℕ → Bool) → Bool
-every zero f = true
-every (suc n) f = f n && every n f
-
-every-by : (f : ℕ → Bool) (n k : ℕ) (b : Bool) → eqb k n ≡ b → T (f n) → (k < n → T (f k)) → k < suc n → T (f k)
-every-by f n k true e t g h = subst (λ (j : ℕ). T (f j)) (sym (eqb-true k n e)) t
-every-by f n k false e t g h = g (omega (arith, eqb-false k n e))
-
-pub every-at : (n : ℕ) (f : ℕ → Bool) → T (every n f) → (k : ℕ) → k < n → T (f k)
-unfolding every
-every-at zero f t k h = absurd (omega arith)
-every-at (suc n) f t k h =
-    let p = and-yes (f n) (every n f) t in
-    every-by f n k (eqb k n) refl (p .0) (every-at n f (p .1) k) h
 
 -- ---- the fraction is a remainder less 1
 

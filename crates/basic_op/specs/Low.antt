@@ -19,6 +19,12 @@ unfolding low16
 low-lt (pos n) = omega arith
 low-lt (negsuc n) = omega arith
 
+-- of a word of 16 bits they are its bits
+pub low-bits : (z : ℤ) → mag z < 32768 → low16 z ≡ ofZ w16 z
+unfolding low16
+low-bits (pos n) h = omega arith
+low-bits (negsuc n) h = omega arith
+
 low-mod : (x : ℤ) → mag x < 2 ^ 31 → ofZ w32 x % 65536 ≡ low16 x
 unfolding low16
 low-mod (pos n) h = refl

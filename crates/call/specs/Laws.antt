@@ -14,7 +14,7 @@ use borrow.Author.Tests.{lt-ltb, le-ltb, le-leb, lt-leb, eq-eqb, ne-eqb}
 use Rattle.count.specs.declared.Counts.{Counts}
 use Rattle.count.specs.declared.Counted.{Counted}
 use Rattle.print.specs.Print.{total, refused, over}
-use Rattle.print.specs.Laws.{paste-more}
+use Rattle.laws.specs.Bytes.{paste-more}
 use Rattle.state.specs.State as State
 use Rattle.words.specs.Words as Words
 use Rattle.words.specs.Laws as WordsLaws

@@ -7,18 +7,16 @@ use native.Mathlib.Omega.{arith}
 use native.Mathlib.Numerals.{add-one}
 use native.Mathlib.Nat.{add-zero, zero-add}
 use lib.Dec.{ltb}
-use lib.IntN.{ℤ, pos, negsuc}
+use lib.IntN.{ℤ}
 use lib.ListN.{length, getD, take, drop, set, length-append}
 use lib.Seq.{take-all, take-length, paste, paste-zero, take-append-seam, drop-append-add, drop-drop}
 use borrow.Author.Tests.{ltb-true, ltb-false, lt-ltb, le-ltb}
-use lib.Signed.{mag}
 use mir.Syntax.{w16}
-use mir.Val.{toZ, ofZ, SFits}
+use mir.Val.{toZ, SFits}
 use mir.Facts.{toZ-ofZ}
 use Rattle.basic_op.specs.Ops.{low16}
-use Rattle.basic_op.specs.Low.{low-lt}
+use Rattle.basic_op.specs.Low.{low-lt, low-bits}
 use Rattle.laws.specs.Lists.{at}
-pub use Rattle.laws.specs.Bytes.{paste-more, paste-end}
 use Rattle.laws.specs.Bytes.{upto, paste-front, paste-snoc}
 use Rattle.laws.specs.Digits.{value, value-digit}
 use Rattle.print.specs.Print.{word, words, pcm, digits, decimal, over}
@@ -60,11 +58,6 @@ number-word n h =
       value-digit (n % 16) (omega arith),
     )
     (omega arith)
-
-low-bits : (z : ℤ) → mag z < 32768 → low16 z ≡ ofZ w16 z
-unfolding low16
-low-bits (pos n) h = omega arith
-low-bits (negsuc n) h = omega arith
 
 -- the four digits of a sample, read in two's complement, are the sample
 pub sample-back : (z : ℤ) → SFits w16 z → toZ w16 (number (word (low16 z))) ≡ z

@@ -5,16 +5,14 @@ use Prim.Native.Nat.{ℕ, zero, suc, _+_, _-_, _*_, _/_, _%_, _^_, _≤_, _<_, m
 use native.Mathlib.Omega.{arith}
 use native.Mathlib.Numerals.{add-one}
 use native.Mathlib.Nat.{pow-succ', lt-of-lt-of-le}
-use lib.IntN.{ℤ, pos, negsuc}
+use lib.IntN.{ℤ, pos}
 use lib.Signed.{mag}
 use lib.ListN.{length, take, drop, getD, set, length-append, length-take, drop-of-length-le}
 use lib.Seq.{take-suc, drop-cons, append-snoc, set-at, take-all, take-at, take-suc-set, getD-take}
 use lib.Pow.{pow-add, pow-mono}
-use mir.Syntax.{w16}
-use mir.Val.{ofZ}
 use mir.Facts.{toZ-ofZ}
 use Rattle.basic_op.specs.Ops.{low16, extract-l}
-use Rattle.basic_op.specs.Low.{low-lt}
+use Rattle.basic_op.specs.Low.{low-lt, low-bits}
 use Rattle.laws.specs.Lists.{at, filled, tab-at}
 use Rattle.words.specs.Words.{word, words, bytes, from-bytes, to-bytes, number, number-bytes}
 
@@ -156,11 +154,6 @@ rest-end n k i r out e h g =
     sym (g ∙ rw (d, append-nil) (take-all i out (omega arith)))
 
 -- ---- read back
-
-low-bits : (z : ℤ) → mag z < 32768 → low16 z ≡ ofZ w16 z
-unfolding low16
-low-bits (pos n) h = omega arith
-low-bits (negsuc n) h = omega arith
 
 low-pair : (n : ℕ) → n < 65536 → low16 (pos (n % 256 + 256 * (n / 256))) ≡ n
 unfolding low16
