@@ -78,9 +78,11 @@ static void of_fresh_state(void)
     CHECK(state[63] == -14336 && state[69] == 3277 && state[233] == 0 && state[HOLDAMEK_STATE_WORDS] == MARK);
 }
 
-static void of_frame(void)
+static const size_t payload_length[] = {10, 2, 0, 0};
+
+/* The order of the refusals, and every wrong length. */
+static void of_frame_lengths(void)
 {
-    static const size_t length[] = {10, 2, 0, 0};
     const size_t t = HOLDAMEK_TABLE_WORDS, s = HOLDAMEK_STATE_WORDS, o = HOLDAMEK_FRAME_SAMPLES;
     uint32_t kind;
     size_t n;
@@ -94,17 +96,24 @@ static void of_frame(void)
     CHECK(frame(t, s + 1, 4, 9, o - 1) == HOLDAMEK_STATE_LENGTH);
     CHECK(frame(t, s, 4, 9, o - 1) == HOLDAMEK_KIND_ABOVE_3);
     CHECK(frame(t, s, 0xffffffffu, 10, o) == HOLDAMEK_KIND_ABOVE_3);
-    for (kind = 0; kind < 4; kind++)
+    for (kind = 0; kind < 4; kind++) {
         for (n = 0; n < 12; n++)
-            if (n != length[kind])
+            if (n != payload_length[kind])
                 check(frame(t, s, kind, n, o - 1) == HOLDAMEK_PAYLOAD_LENGTH, "another payload length is refused");
-    for (kind = 0; kind < 4; kind++)
         for (n = 0; n < 300; n++)
             if (n != o)
-                check(frame(t, s, kind, length[kind], n) == HOLDAMEK_OUTPUT_LENGTH, "another output length is refused");
+                check(frame(t, s, kind, payload_length[kind], n) == HOLDAMEK_OUTPUT_LENGTH, "another output length is refused");
+    }
     CHECK(holdamek_frame(tables, t, state, s, 0, NULL, 0, samples, o) == HOLDAMEK_PAYLOAD_LENGTH);
     CHECK(holdamek_frame(tables, t, state, s, 3, NULL, 0, NULL, 0) == HOLDAMEK_OUTPUT_LENGTH);
     CHECK(kept());
+}
+
+/* Words of the state that are out of range, each tested before the kind. */
+static void of_frame_states(void)
+{
+    const size_t t = HOLDAMEK_TABLE_WORDS, s = HOLDAMEK_STATE_WORDS, o = HOLDAMEK_FRAME_SAMPLES;
+
     state[PREDICTOR] = 2;
     keep();
     CHECK(frame(t, s, 4, 9, o - 1) == HOLDAMEK_STATE_VALUES && kept());
@@ -115,10 +124,18 @@ static void of_frame(void)
     CHECK(frame(t, s, 0, 10, o) == HOLDAMEK_STATE_VALUES);
     state[DELAY] = 145;
     CHECK(frame(t, s, 0, 10, o) == HOLDAMEK_STATE_VALUES);
+}
+
+/* A frame of each kind writes its state and its samples, and nothing behind them. */
+static void of_frame(void)
+{
+    const size_t t = HOLDAMEK_TABLE_WORDS, s = HOLDAMEK_STATE_WORDS, o = HOLDAMEK_FRAME_SAMPLES;
+    uint32_t kind;
+
     for (kind = 0; kind < 4; kind++) {
         state[DELAY] = 144;
         keep();
-        CHECK(frame(t, s, kind, length[kind], o) == HOLDAMEK_OK);
+        CHECK(frame(t, s, kind, payload_length[kind], o) == HOLDAMEK_OK);
         CHECK(memcmp(state, state_before, sizeof state) != 0);
     }
     CHECK(holdamek_frame(tables, t, state, s, 2, NULL, 0, samples, o) == HOLDAMEK_OK);
@@ -212,6 +229,8 @@ int main(void)
     tables[HOLDAMEK_TABLE_WORDS] = state[HOLDAMEK_STATE_WORDS] = samples[HOLDAMEK_FRAME_SAMPLES] = MARK;
     of_tables();
     of_fresh_state();
+    of_frame_lengths();
+    of_frame_states();
     of_frame();
     of_fields();
     of_line();
