@@ -110,7 +110,7 @@ fn end(p: Place, input: &[u8])
     }
 }
 
-// All lines of a call. There are fewer turns than 2^32: each takes a line, of which there are 360,001 at most, or reads a byte, of which 37 at most without a line feed.
+// All lines of a call. Each turn takes a line (360,001 at most) or reads at least one byte (37 at most without a line feed), so there are fewer turns than 2^32.
 fn decode(t: &[i16], b: &mut [i16]) {
     let mut input_buffer = io::large_buffer();
     let mut out_buffer = io::large_buffer();

@@ -1,6 +1,6 @@
--- A call that is cut anywhere and resumed prints what the whole call prints. `Good` is what a state and an output file have to be for that; a new job is good, a part that is
--- decoded and written at its place leaves it good, a state file hands it on to the same tables and to no others (`good-file`, `good-other`), and at the end of the text the last form
--- completes the output. Assumes nothing.
+-- A call that is cut anywhere and resumed prints what the whole call prints. `Good` is the invariant of state and output file: it holds of a new job (`good-fresh`), each part that is
+-- decoded and written keeps it (`good-part`), a state file hands it on to the same tables and to no others (`good-file`, `good-other`), and at the end the last form completes the
+-- output (`good-end`, `good-overlong`, `refused-part`). Assumes nothing.
 use mathlib.Core.Path.{_≡_, refl, sym, ap, _∙_}
 use mathlib.Core.Bool.{Bool, true, false, cond}
 use mathlib.Core.Logic.{_≢_}

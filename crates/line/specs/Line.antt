@@ -34,7 +34,7 @@ form o l = o ++ (hex l ++ closing)
 unfoldable pub text : ℕ → List ℕ → List ℕ
 text kind l = form (opening kind) l
 
--- the bytes of payload of a kind
+-- the bytes of payload of a kind, as `payload-length` of plc has it; line does not import plc
 unfoldable pub size : ℕ → ℕ
 size kind = cond (eqb kind 0) 10 (cond (eqb kind 1) 2 0)
 

@@ -1,6 +1,6 @@
-// Replays texts of calls through crate call, in reads and outputs of given sizes, and prints what they give. Standard input has 3,760 bytes of tables, then for each call 20 bytes,
-// five numbers of four, low byte first: the length of its text, the bytes of a read, the bytes of output lent, and the counts that it starts with, frames and lost; then its text, at
-// most 65,536 bytes. What must be printed for each is the Rust's answer.
+// Replays texts of calls through crate call, in reads and outputs of given sizes, and prints what they give; what must be printed is the Rust's answer.
+// Standard input: 3,760 bytes of tables; then for each call five numbers of four bytes, low byte first (length of the text, bytes of a read, bytes of output lent,
+// frames and lost frames to start with) and its text, at most 65,536 bytes.
 ghost use Prim.Native.Nat.{_≤_, _<_, _+_};
 ghost use lib.ListN.{length};
 use count::Counted;

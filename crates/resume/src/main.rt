@@ -1,7 +1,6 @@
-// The program `resume CALL STATE OUT [FRAMES]`: goes on with a call from the state file, decodes at most FRAMES frames, writes their forms to OUT and leaves the new
-// state. The bytes of OUT that stand before the state's place are on the disk before the state is, and a new state takes the place of the old one by a rename; so wherever the
-// program is stopped, the same command goes on from the last good state and writes the same bytes again. The decisions are those of crate job, on slices;
-// here are the files.
+// The program `resume CALL STATE OUT [FRAMES]`: goes on from the state file, decodes at most FRAMES frames, writes their forms to OUT and leaves the new state.
+// OUT is on the disk before the state that counts it, and a new state replaces the old one by a rename. So wherever the program is stopped, the same command goes on
+// from the last good state and writes the same bytes again. Crate job decides, on slices; here are the files.
 ghost use Prim.Native.Nat.{_<_};
 
 mod files;

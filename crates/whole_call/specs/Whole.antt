@@ -1,5 +1,5 @@
--- However a call's text is cut into reads, and whatever room its output has, what is written, one part behind the other, is `printed` of the whole text: `whole`; and with the tables,
--- `output` of the table file and the text: `program`. Assumes nothing.
+-- `whole`: however a text is cut into reads, and whatever room the output has, the parts written make up `printed` of the whole text.
+-- `program`: with the tables they are `output` of the table file and the text. Assumes nothing.
 use mathlib.Core.Path.{_≡_, refl, ap, sym, _∙_}
 use mathlib.Core.Bool.{Bool, true, false, cond, _&&_}
 use mathlib.Core.List.{List, [], _∷_, _++_, append-assoc, append-nil}
