@@ -1,98 +1,29 @@
 -- What a part of a call leaves fits a job file (`counts-fit` of Job): a line that is not refused is one frame more, lost or not, of 360,000 at most, and has 15 to 37 bytes with its
 -- line feed; and its state is accepted. Assumes nothing.
 use mathlib.Core.Path.{_≡_, refl, sym, ap, _∙_}
-use mathlib.Core.Bool.{Bool, true, false, cond, _||_}
+use mathlib.Core.Bool.{Bool, true, false, cond}
 use mathlib.Core.List.{List, [], _∷_, _++_}
-use Prim.Native.Nat.{ℕ, _+_, _-_, _*_, _≤_, _<_}
+use Prim.Native.Nat.{ℕ, _+_, _-_, _*_, _≤_}
 use native.Mathlib.Omega.{arith}
-use borrow.Author.Tests.{eq-eqb, ne-eqb, eqb-true, eqb-false, leb-false, le-leb}
-use lib.Dec.{eqb, leb, ltb}
-use lib.IntN.{ℤ, pos}
-use lib.ListN.{length, take, replicate, length-append}
+use borrow.Author.Tests.{ne-eqb, eqb-true, eqb-false, le-leb}
+use lib.Dec.{eqb}
+use lib.IntN.{ℤ}
+use lib.ListN.{length, replicate, length-append}
 use Rattle.count.specs.declared.Counts.{Counts}
-use Rattle.count.specs.declared.Counted.{Counted}
-use Rattle.count.specs.Count.{count}
 use Rattle.line.specs.Line as Line
 use Rattle.line.specs.Laws.{form-length}
-use Rattle.plc.specs.Kinds.{payload-length}
-use Rattle.decoder.specs.Call as Frame
-use Rattle.line_step.specs.Step.{Job, Step, stop, framed, counted, line-step}
-use Rattle.line_step.specs.Step as LineStep
+use Rattle.line_step.specs.Step.{Job, Step, stop, line-step}
 use Rattle.call.specs.Chunk.{Part, none, behind, goes-on, part}
 use Rattle.line_step.specs.Laws.{not-line}
 use Rattle.call.specs.Laws.{part-stop}
 use Rattle.state.specs.State.{state-check}
+use Rattle.whole_call.specs.Counting.{counting}
 use Rattle.whole_call.specs.Codes.{line-accepted}
 use Rattle.job.specs.declared.Saved.{Saved}
 use Rattle.job.specs.Job.{counts-fit}
 use Rattle.job.specs.Back.{Small}
 
--- ---- a line that is not refused is one frame more
-
--- the counts after a line
-pub record Grown (job : Job) (s : Step) : Type 0 where
-  pub more : s .job .code ≡ 0 → s .job .counts .frames ≡ job .counts .frames + 1
-  pub lost : s .job .code ≡ 0 → s .job .counts .lost ≤ job .counts .lost + 1
-  pub room : s .job .code ≡ 0 → job .counts .frames < 360000
-  pub same : (s .job .code ≡ 0 → ⊥) → s .job .counts ≡ job .counts
-
-grown-stop : (job : Job) (n : ℕ) → (n ≡ 0 → ⊥) → Grown job (stop job n)
-unfolding stop
-grown-stop job n h = record { more = λ e. absurd (h e); lost = λ e. absurd (h e); room = λ e. absurd (h e); same = λ e. refl }
-
--- Count's answer by its tests
-abbrev tested : ℕ → Counts → Bool → Bool → Bool → Bool → Counted
-tested kind c p q r s =
-    cond p (record { code = 5; counts = c })
-    (cond (q || r) (record { code = 10; counts = c }) (record { code = 0; counts = record { frames = c .frames + 1; lost = cond s (c .lost) (c .lost + 1) } }))
-
-abbrev More : Counts → Counted → Type 0
-More c d = (d .counts .frames ≡ c .frames + 1) × ((d .counts .lost ≤ c .lost + 1) × (c .frames < 360000))
-
-one-tested : (kind : ℕ) (c : Counts) (p q r s : Bool) → leb 360000 (c .frames) ≡ q → tested kind c p q r s .code ≡ 0 → More c (tested kind c p q r s)
-one-tested kind c true q r s f e = absurd (omega arith)
-one-tested kind c false true r s f e = absurd (omega arith)
-one-tested kind c false false true s f e = absurd (omega arith)
-one-tested kind c false false false true f e = (refl, (omega arith, omega (arith, leb-false 360000 (c .frames) f)))
-one-tested kind c false false false false f e = (refl, (omega arith, omega (arith, leb-false 360000 (c .frames) f)))
-
-one-count : (kind : ℕ) (c : Counts) → count kind c .code ≡ 0 → More c (count kind c)
-unfolding count
-one-count kind c = one-tested kind c (ltb 3 kind) (leb 360000 (c .frames)) (leb 360000 (c .lost)) (eqb kind 0) refl
-
-grown-frame : (job : Job) (next : Counted) (a : Frame.Answer) → More (job .counts) next → Grown job (framed job (next .counts) a)
-unfolding framed
-grown-frame job next (Frame.answer code b samples) h =
-    record {
-      more = λ e. rw (eq-eqb code 0 e) (h .0);
-      lost = λ e. rw (eq-eqb code 0 e) (h .1 .0);
-      room = λ e. h .1 .1;
-      same = λ e. rw (ne-eqb code 0 e);
-    }
-
-grown-counted : (t : List ℤ) (job : Job) (kind : ℕ) (payload : List ℕ) → Grown job (counted t job kind payload (count kind (job .counts)))
-unfolding counted
-grown-counted t job kind payload = by (eqb (count kind (job .counts) .code) 0) refl
-  where
-    F : Frame.Answer
-    F = Frame.frame t (job .block) kind payload (replicate 80 (pos 0))
-
-    by : (p : Bool) → eqb (count kind (job .counts) .code) 0 ≡ p → Grown job (cond p (framed job (count kind (job .counts) .counts) F) (stop job (count kind (job .counts) .code)))
-    by true e = grown-frame job (count kind (job .counts)) F (one-count kind (job .counts) (eqb-true _ _ e))
-    by false e = grown-stop job (count kind (job .counts) .code) (eqb-false _ _ e)
-
-pub grown-line : (t : List ℤ) (job : Job) (l : List ℕ) → Grown job (line-step t job l)
-unfolding line-step LineStep.taken
-grown-line t job l = by (Line.line l (replicate 10 0))
-  where
-    pick : (p : Bool) (n : ℕ) (s : Step) → eqb n 0 ≡ p → Grown job s → Grown job (cond p s (stop job n))
-    pick true n s e f = f
-    pick false n s e f = grown-stop job n (eqb-false _ _ e)
-
-    by : (a : Line.Answer) → Grown job (LineStep.taken t job a)
-    by (Line.answer code kind bytes) = pick (eqb code 0) code _ refl (grown-counted t job kind (take (payload-length kind) bytes))
-
--- ---- it has 14 to 36 bytes
+-- ---- a line that is not refused has 14 to 36 bytes
 
 line-bytes : (t : List ℤ) (job : Job) (l : List ℕ) → line-step t job l .job .code ≡ 0 → (14 ≤ length l) × (length l ≤ 36)
 unfolding Line.line Line.is Line.opening Line.size stop
@@ -150,13 +81,13 @@ part-fits t job room held (b ∷ l) h =
     line false z f e = absurd (refused-stays t (s .job) (room - length (s .text)) l (eqb-false _ _ z) e)
     line true z f e =
         let c : s .job .code ≡ 0 = eqb-true _ _ z in
-        let g = grown-line t job held in
+        let g = counting t job held .more c in
         let k = line-bytes t job held c in
-        let q = f (omega (arith, g .more c, g .room c)) e in
+        let q = f (omega arith) e in
         record {
-          least = omega (arith, q .least, g .more c, k .0);
-          most = omega (arith, q .most, g .more c, k .1);
-          lost = omega (arith, q .lost, g .more c, g .lost c);
+          least = omega (arith, q .least, k .0);
+          most = omega (arith, q .most, k .1);
+          lost = omega (arith, q .lost);
           limit = q .limit;
         }
 

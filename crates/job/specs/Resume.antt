@@ -19,6 +19,7 @@ use Rattle.line_step.specs.Step.{Job, Step, line-step}
 use Rattle.line_step.specs.Laws.{sized}
 use Rattle.call.specs.Call.{last-form, printed, fresh-job, file-check, output}
 use Rattle.call.specs.Chunk as Chunk
+use Rattle.whole_call.specs.Counting.{counting}
 use Rattle.whole_call.specs.Ending.{fresh-checked}
 use Rattle.whole_call.specs.Whole.{with-code, printed-ended, again, lines-made, overlong-made}
 use Rattle.print.specs.Print.{over}
@@ -30,7 +31,7 @@ use Rattle.job.specs.Crc32.{crc32}
 use Rattle.job.specs.Job.{start, pack, counts-fit, answer, read}
 use Rattle.job.specs.Damage.{Bytes, crc32-lt}
 use Rattle.job.specs.Back.{Small, small, pack-read, pack-other}
-use Rattle.job.specs.Fits.{Fits, grown-line, part-unused, part-fits, part-accepted, fits-after}
+use Rattle.job.specs.Fits.{Fits, part-unused, part-fits, part-accepted, fits-after}
 use Rattle.job.specs.Part.{going, taken, part}
 use Rattle.job.specs.Part as Part
 
@@ -51,10 +52,10 @@ part-frames t job room held (b ∷ l) =
     line : (p : Bool) → eqb (s .job .code) 0 ≡ p → 327 * s .job .counts .frames ≡ 327 * job .counts .frames + length (s .text)
     line true z =
         let c : s .job .code ≡ 0 = eqb-true _ _ z in
-        omega (arith, grown-line t job held .more c, sized t job held .whole c)
+        omega (arith, counting t job held .more c .0, sized t job held .whole c)
     line false z =
         let n : length (s .text) ≡ 0 = ap length (sized t job held .silent (eqb-false _ _ z)) in
-        omega (arith, ap (λ (c : Counts). c .frames) (grown-line t job held .same (eqb-false _ _ z)))
+        omega (arith, ap (λ (c : Counts). c .frames) (counting t job held .as-was (eqb-false _ _ z)))
 
     by : (p q : Bool) → Frames (s .job) (Chunk.part t (s .job) (room - length (s .text)) [] l) → Frames job (Chunk.part t job room (held ++ (b ∷ [])) l)
         → Frames job (cond p (cond q (Chunk.behind (s .text) (Chunk.part t (s .job) (room - length (s .text)) [] l)) (Chunk.part t job room (held ++ (b ∷ [])) l)) (Chunk.none job (held ++ (b ∷ l))))

@@ -5,26 +5,23 @@ use mathlib.Core.Bool.{Bool, true, false, cond, _||_}
 use mathlib.Core.List.{List, [], _∷_, _++_, append-assoc, append-nil}
 use Prim.Native.Nat.{ℕ, _+_, _≤_, _<_}
 use native.Mathlib.Omega.{arith}
-use lib.Dec.{eqb, leb, ltb}
+use lib.Dec.{eqb}
 use lib.IntN.{ℤ, pos}
 use lib.Signed.{ltZ}
 use lib.ListN.{length, length-append}
 use lib.Seq.{append-snoc}
-use borrow.Author.Tests.{eq-eqb, ne-eqb, eqb-true, eqb-false, leb-false}
+use borrow.Author.Tests.{eq-eqb, ne-eqb, eqb-true, eqb-false}
 use Rattle.count.specs.declared.Counts.{Counts}
-use Rattle.count.specs.declared.Counted.{Counted}
-use Rattle.count.specs.Count.{count}
-use Rattle.line.specs.Line as Line
-use Rattle.decoder.specs.Call as Frame
 use Rattle.print.specs.Print.{total, refused}
 use Rattle.tables.specs.Layout.{table-check, scalar}
 use Rattle.tables.specs.declared.Scalar.the-variants.{InitialPreviousPitchDelay}
 use Rattle.state.specs.State.{state-check}
 use Rattle.state.specs.Laws.{fresh-accepted, check-of-accepted}
 use Rattle.words.specs.Words.{words}
-use Rattle.line_step.specs.Step.{Job, Step, stop, framed, counted, taken, line-step}
+use Rattle.line_step.specs.Step.{Job, Step, line-step}
 use Rattle.call.specs.Call.{line-number, last-form, printed, fresh-job, file-check, output}
 use Rattle.call.specs.Chunk.{to-feed}
+use Rattle.whole_call.specs.Counting.{counting}
 use Rattle.whole_call.specs.Codes.{refuses, refused-with, line-accepted}
 use Rattle.whole_call.specs.Whole.{feedless-rest, feedless-more, no-feed, printed-ended}
 
@@ -33,61 +30,18 @@ unfoldable pub feeds : List ℕ → ℕ
 feeds [] = 0
 feeds (b ∷ l) = cond (eqb b 10) 1 0 + feeds l
 
--- whether a text is whole lines, where p says so of nothing: its last byte is a line feed
+-- whether the last byte of a text is a line feed; p is the answer for no bytes
 unfoldable pub ended : Bool → List ℕ → Bool
 ended p [] = p
 ended p (b ∷ l) = ended (eqb b 10) l
 
--- all that is printed of a text behind n lines
+-- how all that is printed of a text behind n lines ends; what stands before the last form is `printed`'s to say
 pub data Ending (n : ℕ) (text out : List ℕ) : Type 0 where
-  -- the last form is the total, with as many frames as there are lines
-  with-total : (samples : List ℕ) (lost : ℕ) → out ≡ samples ++ total (n + feeds text) lost → Ending n text out
+  -- of whole lines: the total, with as many frames as there are lines
+  with-total : (samples : List ℕ) (lost : ℕ) → ended true text ≡ true → out ≡ samples ++ total (n + feeds text) lost → Ending n text out
   -- or the refusal, with 9 or 10, of the line that stands behind some whole lines
   with-refusal : (samples before rest : List ℕ) (code : ℕ) → refuses code ≡ true → text ≡ before ++ rest → ended true before ≡ true → 0 < length rest
       → out ≡ samples ++ refused code (n + feeds before + 1) → Ending n text out
-
--- ---- one line: a frame more where it is taken, and the counts as they were where it is refused
-
-record Counting (c : Counts) (s : Step) : Type 0 where
-  more : s .job .code ≡ 0 → (s .job .counts .frames ≡ c .frames + 1) × (c .frames < 360000)
-  as-was : (s .job .code ≡ 0 → ⊥) → s .job .counts ≡ c
-
-counting-frame : (job : Job) (next : Counts) (a : Frame.Answer) → (next .frames ≡ job .counts .frames + 1) × (job .counts .frames < 360000) → Counting (job .counts) (framed job next a)
-unfolding framed
-counting-frame job next (Frame.answer code b samples) h = record { more = λ e. rw (eq-eqb code 0 e) h; as-was = λ e. rw (ne-eqb code 0 e) }
-
-counting-if : (job : Job) (n : ℕ) (s : Step) → (n ≡ 0 → Counting (job .counts) s) → Counting (job .counts) (cond (eqb n 0) s (stop job n))
-unfolding stop
-counting-if job n s f = by (eqb n 0) refl
-  where
-    by : (p : Bool) → eqb n 0 ≡ p → Counting (job .counts) (cond p s (stop job n))
-    by true e = f (eqb-true n 0 e)
-    by false e = record { more = λ h. absurd (eqb-false n 0 e h); as-was = λ h. refl }
-
-count-more : (kind : ℕ) (c : Counts) → count kind c .code ≡ 0 → (count kind c .counts .frames ≡ c .frames + 1) × (c .frames < 360000)
-unfolding count
-count-more kind c = by (ltb 3 kind) (leb 360000 (c .frames)) (leb 360000 (c .lost)) refl
-  where
-    next : Counts
-    next = record { frames = c .frames + 1; lost = cond (eqb kind 0) (c .lost) (c .lost + 1) }
-
-    r : Bool → Bool → Counted
-    r p q = cond p (record { code = 5; counts = c }) (cond q (record { code = 10; counts = c }) (record { code = 0; counts = next }))
-
-    by : (p q l : Bool) → leb 360000 (c .frames) ≡ q → r p (q || l) .code ≡ 0 → (r p (q || l) .counts .frames ≡ c .frames + 1) × (c .frames < 360000)
-    by true q l e h = absurd (omega arith)
-    by false true l e h = absurd (omega arith)
-    by false false true e h = absurd (omega arith)
-    by false false false e h = (refl, omega (arith, leb-false 360000 (c .frames) e))
-
-counting-taken : (t : List ℤ) (job : Job) (a : Line.Answer) → Counting (job .counts) (taken t job a)
-unfolding taken counted
-counting-taken t job (Line.answer code kind bytes) =
-    counting-if job code _ (λ e. counting-if job (count kind (job .counts) .code) _ (λ g. counting-frame job _ _ (count-more kind (job .counts) g)))
-
-counting : (t : List ℤ) (job : Job) (l : List ℕ) → Counting (job .counts) (line-step t job l)
-unfolding line-step
-counting t job l = counting-taken t job _
 
 -- ---- a line in front of a text
 
@@ -108,9 +62,9 @@ unfolding ended
 nothing-ended = refl
 
 line-more : (n m : ℕ) (held text v out : List ℕ) (b : ℕ) → m ≡ n + 1 → to-feed held ≡ length held → eqb b 10 ≡ true → Ending m text out → Ending n (held ++ (b ∷ text)) (v ++ out)
-line-more n m held text v out b hm h e (with-total samples lost f) =
+line-more n m held text v out b hm h e (with-total samples lost w f) =
     let k : m + feeds text ≡ n + feeds (held ++ (b ∷ text)) = omega (arith, feeds-line held text b h e) in
-    with-total (v ++ samples) lost (rw (f, k) (sym (append-assoc v samples _)))
+    with-total (v ++ samples) lost (ended-line true held text b ∙ rw e w) (rw (f, k) (sym (append-assoc v samples _)))
 line-more n m held text v out b hm h e (with-refusal samples before rest code z g w l f) =
     let k : m + feeds before ≡ n + feeds (held ++ (b ∷ before)) = omega (arith, feeds-line held before b h e) in
     with-refusal (v ++ samples) (held ++ (b ∷ before)) rest code z (rw g (sym (append-assoc held (b ∷ before) rest))) (ended-line true held before b ∙ rw e w) l
@@ -124,7 +78,7 @@ refused-form c code held h z = rw (ne-eqb code 0 z) (ap (λ (n : ℕ). refused c
 
 open-form : (c : Counts) (code : ℕ) (held : List ℕ) → c .frames ≤ 360000 → code ≡ 0 → Ending (c .frames) held (last-form c code held)
 unfolding last-form line-number feeds ended refuses
-open-form c code [] h z = with-total [] (c .lost) (rw (eq-eqb code 0 z) (ap (λ (n : ℕ). total n (c .lost)) (omega arith)))
+open-form c code [] h z = with-total [] (c .lost) refl (rw (eq-eqb code 0 z) (ap (λ (n : ℕ). total n (c .lost)) (omega arith)))
 open-form c code (b ∷ held) h z =
     with-refusal [] [] (b ∷ held) 9 refl refl refl (omega arith)
     (rw (eq-eqb code 0 z, ne-eqb (length (b ∷ held)) 0 (λ e. omega arith)) (ap (λ (n : ℕ). refused 9 n) (omega arith)))

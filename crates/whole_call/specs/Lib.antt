@@ -1,4 +1,5 @@
 -- Theorems on whole calls.
 pub mod Whole
+pub mod Counting
 pub mod Codes
 pub mod Ending
