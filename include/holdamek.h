@@ -3,8 +3,8 @@
  *
  * Each function returns 0 or the number of the first refusal that applies, in the order of its list below. A refusal leaves all lent
  * memory as it was. Nothing is allocated, no function keeps anything between two calls, and none waits or calls the system, so
- * threads may call them at the same time, on one table block too, as long as nobody else touches the memory lent for writing. Less than
- * 16 KiB of stack is enough (measured).
+ * threads may call them at the same time, on one table block too, as long as nobody else touches the memory lent for writing. 16 KiB
+ * of stack are enough (5.3 KB were measured).
  *
  * A length counts elements, not bytes. A wrong length is refused before the memory is touched; so NULL with length 0 is refused where
  * another length is due, and is right for the payload of HOLDAMEK_NO_TRANSMISSION and HOLDAMEK_ERASED.

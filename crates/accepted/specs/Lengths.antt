@@ -84,7 +84,7 @@ module _ (t : List ℤ) (first second : Subframe) (s : Signal) where
   unfolding frame-signal frame-buffers
   tail-kept h = simp (length-drop, length-speech, length-append, length-replicate, h)
 
--- the parameters that a frame leaves
+-- parameters that fit a state block
 record Fitting (p : Params) : Type 0 where
   r0 : length (p .r0) ≡ 10
   r1 : length (p .r1) ≡ 10

@@ -1,3 +1,3 @@
--- A frame leaves an accepted state, with lists of the lengths that it began with.
+-- A frame leaves an accepted state, and its lists have the lengths of a state block.
 pub mod Lengths
 pub mod Accepted

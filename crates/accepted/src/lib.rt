@@ -1,1 +1,1 @@
-// No code: laws about the frame's definition, for agreement, whole_call and job (specs/).
+// No code: that a frame leaves an accepted state, for agreement and whole_call (specs/).

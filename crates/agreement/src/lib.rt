@@ -1,1 +1,1 @@
-// No code: what is claimed of two decoders on one list of frame calls (specs/Demand.antt), and the values of the stages' definitions (specs/Values.antt).
+// No code: demand 2 on a whole list of frame calls (specs/Run.antt), two decoders on one list (specs/Demand.antt), and the values that 01 wants proved (specs/Values.antt).

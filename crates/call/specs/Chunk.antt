@@ -1,4 +1,5 @@
--- A part of a call's text: whole lines are taken out of it, while what they print fits into the room lent for it. `whole` of crate whole_call says that parts make up `printed` of the whole text.
+-- A part of a call's text (01, "The call text and the program"): whole lines are taken out of it, while what they print fits into the room lent for it. `whole` of crate whole_call says that parts make up
+-- `printed` of the whole text.
 use mathlib.Core.Bool.{Bool, cond, _&&_}
 use mathlib.Core.List.{List, [], _∷_, _++_}
 use Prim.Native.Nat.{ℕ, suc, _-_}
@@ -62,7 +63,7 @@ overlong l code = cond (eqb code 0 && ltb 36 (to-feed l)) 9 code
 pub data Begun : Type 0 where
   begun : ℕ → List ℤ → List ℤ → Begun
 
--- the words of the file are in t′, and are left in t where Fresh state took them
+-- t′ are the words of the file: the table block is t′ where Fresh state answers 0, else t as it was
 unfoldable pub with-state : List ℤ → List ℤ → State.Answer → Begun
 with-state t t′ (State.answer code b) = begun code (cond (eqb code 0) t′ t) b
 

@@ -1,4 +1,4 @@
--- Laws of a call's text: lines taken out of a part of it, and what is behind them, print what the whole does. Assumes nothing.
+-- What the proofs of `call` use of its definitions: lines taken out of a part of the text, the scan for a line feed, the last form, bytes moved to the front, and the tables. Assumes nothing.
 use mathlib.Core.Path.{_≡_, refl, ap, sym, _∙_}
 use mathlib.Core.Bool.{Bool, true, false, cond, _&&_}
 use mathlib.Core.List.{List, [], _∷_, _++_, append-assoc, append-nil}

@@ -175,7 +175,7 @@ module _ (b : List ℤ) (p : Saved) (n : length b ≡ 234) (w : (k : ℕ) → ma
   unfolding pack body block
   pack-block = rw (part-b (bytes b) X Y Z Q S nb nx ny nz nq ns) (words-back b w)
 
-  -- with the tables of this CRC-32, the number is that of 01's check of the block
+  -- with tables of its CRC-32 the number is that of 01's check of the block, with others 23
   pub pack-check : (tables : ℕ) → check (pack b p) tables ≡ cond (eqb (p .tables) tables) (state-check b) 23
   unfolding check
   pack-check tables = rw (eq-eqb _ _ pack-length, pack-sum, pack-place, c, pack-block)

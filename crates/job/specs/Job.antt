@@ -50,8 +50,8 @@ counts-fit p =
     && (leb (15 * p .counts .frames) (p .at) && leb (p .at) (37 * p .counts .frames)))
 
 -- Tables of this CRC-32 are at hand. 3: not 492 bytes. 22: damaged, the check sum or the counts don't fit. 23: the job was begun with other tables. 4: as 01 says of
--- a state block. 22 comes before 23 and 4, since a damaged byte may lie in the tables' CRC-32, the predictor or the delay, and must not be taken for other tables or for a
--- state that was never good; 23 comes before 4, since no word of the block is looked at before it is known to belong to these tables.
+-- a state block. 22 comes first, since the damaged byte may be one of the tables' CRC-32, of the predictor or of the delay; 23 comes before 4, since no word of the block is
+-- looked at before it is known to belong to these tables.
 unfoldable pub check : List ℕ → ℕ → ℕ
 check f tables =
     cond (eqb (length f) 492)

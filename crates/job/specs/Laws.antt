@@ -1,4 +1,4 @@
--- Laws of the check sum and of the job file: the loops of `job`, what was written read back, and that no damaged byte goes unnoticed. Assumes nothing.
+-- What the proofs of `job` use of its definitions: the loops of the check sum, the job file put together and tested, a part of a call, and names. Assumes nothing.
 use mathlib.Core.Path.{_≡_, refl, sym, ap, _∙_}
 use mathlib.Core.List.{List, [], _∷_, _++_, append-assoc, append-nil}
 use Prim.Native.Nat.{ℕ, suc, _+_, _-_, _*_, _/_, _%_, _^_, _≤_, _<_, min}

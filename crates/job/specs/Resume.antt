@@ -1,5 +1,5 @@
 -- A call that is cut anywhere and resumed prints what the whole call prints. `Good` is the invariant of state and output file: it holds of a new job (`good-fresh`), each part that is
--- decoded and written keeps it (`good-part`), a state file hands it on to the same tables and to no others (`good-file`, `good-other`), and at the end the last form completes the
+-- decoded and written keeps it (`good-part`), a state file hands it on to the same tables and is refused with tables of another CRC-32 (`good-file`, `good-other`), and at the end the last form completes the
 -- output (`good-end`, `good-overlong`, `refused-part`). Assumes nothing.
 use mathlib.Core.Path.{_≡_, refl, sym, ap, _∙_}
 use mathlib.Core.Bool.{Bool, true, false, cond}

@@ -29,7 +29,8 @@ to-lsp t omega = lsf-to-lsp (scalar t LsfToLspFrequencyScale) omega
 unfoldable pub sharpened : List ℤ → ℤ → (index sign : ℕ) → Delay → List ℤ
 sharpened t beta index sign delay = sharpen (codevector (scalar t FixedCodebookPulsePositive) index sign) (delay .integer) beta
 
-unfoldable pub subframe : Delay → GainState → List ℤ → List ℤ → Subframe
+-- code is the sharpened codevector, a the coefficients of synthesis
+unfoldable pub subframe : Delay → GainState → (code a : List ℤ) → Subframe
 subframe delay gains code a = record { delay = delay; gp = gains .gp; gc = gains .gc; code = code; a = a }
 
 -- clause 4.1: a frame that was received. Its first subframe has the LSP halfway from the frame before (clause 3.2.5)

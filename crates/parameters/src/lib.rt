@@ -131,7 +131,7 @@ fn concealed_delays(pitch: PitchState) -> Delays
     Delays { first, second }
 }
 
-// The codevector, sharpened with the subframe's delay and the factor of the subframe before (clause 4.1.4).
+// The codevector, sharpened with the subframe's delay and the factor of the subframe before (clauses 4.1.4 and 4.4.4).
 fn sharpened(t: &[i16], beta: i16, index: u16, sign: u16, delay: Delay) -> [i16; 40]
     ensures { λ r. ⌜ r ≡ sharpened (now (t .entry)) beta index sign delay ⌝ }
 {

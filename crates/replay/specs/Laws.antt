@@ -49,7 +49,7 @@ module _ (row : ℕ) (l : List ℤ) (p : ℕ) (v : List ℤ) (skip : ℕ) (t₀ 
       let j : skip + (n - skip) ≡ n = omega arith in
       rw m (steps-turn _ _ _ _ _ e (k ∙ rw (f, g, j)))
 
-  -- the last turn is behind
+  -- after the last turn
   pub first-end : (n : ℕ) (t : List ℕ) → t ≡ first (n - skip) → n - skip ≡ length v - skip → t ≡ compare row l p v skip t₀
   unfolding first compare
   first-end n t e h = steps-end _ _ _ _ _ e h

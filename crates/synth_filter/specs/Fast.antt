@@ -9,7 +9,7 @@ use lib.IntN.{ℤ, pos, negsuc, natAbs, _+ℤ_, _*ℤ_}
 use lib.Signed.{shrZ}
 use Rattle.laws.specs.Lists.{at, tab}
 use Rattle.laws.specs.Loops.{steps}
-use Rattle.laws.specs.Sums.{less}
+use Rattle.laws.specs.Sums.{without}
 use Rattle.synth_filter.specs.Filter.{synth-sample, synth-overflow, samples, overflow-at, any}
 
 -- what past sample i + 1 takes off
@@ -18,14 +18,14 @@ term a y n i = at a (i + 1) *ℤ at y (n - (i + 1))
 
 -- x a0 - a1 y(n - 1) - .. - a10 y(n - 10)
 unfoldable pub whole-sum : List ℤ → ℤ → List ℤ → ℕ → ℤ
-whole-sum a x y n = less (term a y n) 10 (x *ℤ at a 0)
+whole-sum a x y n = without (term a y n) 10 (x *ℤ at a 0)
 
 -- the size of c; for one of 32768 or more, with which a product may saturate, 61440 or more, which is above the limit
 unfoldable pub size : ℤ → ℕ
 size c = natAbs c + cond (ltb (natAbs c) 32768) 0 28672
 
 -- the sizes of a0 to ak together. The products of one sample are together at most 2 ^ 15 times that of all, and a sum that ends in range ends at
--- 2 ^ 15 times 4096 at most: so with a size sum up to 61439, which is 65535 less 4096, twice the sum stays below 2 ^ 31 at every step (`less-between` of Sums)
+-- 2 ^ 15 times 4096 at most: so with a size sum up to 61439, which is 65535 less 4096, twice the sum stays below 2 ^ 31 at every step (`without-between` of Sums)
 unfoldable pub size-sum : List ℤ → ℕ → ℕ
 size-sum a k = steps (λ i w. w + size (at a (i + 1))) k (size (at a 0))
 
@@ -49,7 +49,7 @@ next-term a y n i = at a (i + 1 + 1) *ℤ at y (n - (i + 1))
 
 -- the sum of sample n + 1, of excitation x, without the product with sample n
 unfoldable pub next-sum : List ℤ → ℤ → List ℤ → ℕ → ℤ
-next-sum a x y n = less (next-term a y n) 9 (x *ℤ at a 0)
+next-sum a x y n = without (next-term a y n) 9 (x *ℤ at a 0)
 
 -- l holds the sums of samples n and n + 1, of excitations x and u, without the products with the m newest past samples. With a size sum up to 61439 each is
 -- below 2 ^ 31 in size, so the halves can be parted and l fits 64 bits
@@ -57,8 +57,8 @@ pub record Halves (a : List ℤ) (x u : ℤ) (y : List ℤ) (n m : ℕ) (l : ℤ
   pub low : ℤ
   pub high : ℤ
   pub sum : l ≡ both low high
-  pub low-rest : less (term a y n) m low ≡ whole-sum a x y n
-  pub high-rest : less (next-term a y n) m high ≡ next-sum a u y n
+  pub low-rest : without (term a y n) m low ≡ whole-sum a x y n
+  pub high-rest : without (next-term a y n) m high ≡ next-sum a u y n
   pub low-size : natAbs low + 32768 * size-sum a m ≤ 32768 * (size-sum a 10 + size (at a 0))
   pub high-size : natAbs high + 32768 * size-sum a (m + 1) ≤ 32768 * (size-sum a 10 + size (at a 0))
 

@@ -15,7 +15,7 @@ use mir.Val.{SFits}
 use Rattle.laws.specs.Lists.{at}
 use Rattle.laws.specs.Loops.{steps, run-none}
 use Rattle.laws.specs.Range.{abs-mul, mag-double, mag-shr-less}
-use Rattle.laws.specs.Sums.{less, sizes, less-between}
+use Rattle.laws.specs.Sums.{without, sizes, without-between}
 use Rattle.laws.specs.Ints.{neg-is, double-sub}
 use Rattle.basic_op.specs.Ops.{l-add, l-sub, l-mult, l-msu, l-shl, by-sign, extract-h, round, overflow, l-mult-overflow, l-msu-overflow, l-shl3-overflow, round-overflow}
 use Rattle.basic_op.specs.Laws.{sat-id}
@@ -79,7 +79,7 @@ past-turn y n k m d p h i q b = ⊎-elim (λ e. rw (← e, ← d) (natAbs-le (at
 
 -- the sum when k of the ten are taken off
 abbrev part : List ℤ → ℤ → List ℤ → ℕ → ℕ → ℤ
-part a x y n k = less (term a y n) k (x *ℤ at a 0)
+part a x y n k = without (term a y n) k (x *ℤ at a 0)
 
 overflow-none : (n : ℕ) (z : ℤ) → mag z ≤ n → overflow n z ≡ false
 unfolding overflow
@@ -103,7 +103,7 @@ module _ (a : List ℤ) (x : ℤ) (y : List ℤ) (n : ℕ) (bounded : size-sum a
   module _ (low : natAbs (whole-sum a x y n) ≤ 134217728) where
     sum-fits : (k : ℕ) → k ≤ 10 → mag (pos 2 *ℤ part a x y n k) ≤ 2147483647
     unfolding whole-sum
-    sum-fits k h = mag-double (part a x y n k) 2147483647 (less-between (term a y n) (x *ℤ at a 0) 10 k 2147483647 h (omega (arith, all-sizes 10 (le-refl 10))))
+    sum-fits k h = mag-double (part a x y n k) 2147483647 (without-between (term a y n) (x *ℤ at a 0) 10 k 2147483647 h (omega (arith, all-sizes 10 (le-refl 10))))
 
     -- the sum of `Filter` is twice the whole sum, at each step
     sum-whole : (k : ℕ) → k ≤ 10 → synth-sum a x y n k ≡ pos 2 *ℤ part a x y n k

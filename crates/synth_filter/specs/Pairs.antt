@@ -16,7 +16,7 @@ use mir.Val.{SFits}
 use Rattle.laws.specs.Lists.{at, at-tab}
 use Rattle.laws.specs.Loops.{steps, steps-same}
 use Rattle.laws.specs.Range.{abs-mul, mag-abs, mag-sub, mag-word}
-use Rattle.laws.specs.Sums.{abs-add, abs-sub, less, less-first, less-front}
+use Rattle.laws.specs.Sums.{abs-add, abs-sub, without, without-first, without-front}
 use Rattle.laws.specs.Ints.{add-swap, sub-sums, mul-add, sub-mul, mul-swap, shr-add}
 use Rattle.synth_filter.specs.Fast.{term, whole-sum, size, size-sum, Past, both, pairs, next-term, next-sum, Halves, Rounded, Sampled, Reached}
 use Rattle.synth_filter.specs.Filter.{exc-start, speech-start}
@@ -97,9 +97,9 @@ pairs-size a k h q =
 
 -- ---- the sums of two samples, past sample by past sample
 
-rest-turn : (t : ℕ → ℤ) (k m : ℕ) → m ≡ k + 1 → (l v s : ℤ) → v ≡ t k → less t m l ≡ s → less t k (l -ℤ v) ≡ s
+rest-turn : (t : ℕ → ℤ) (k m : ℕ) → m ≡ k + 1 → (l v s : ℤ) → v ≡ t k → without t m l ≡ s → without t k (l -ℤ v) ≡ s
 unfolding steps
-rest-turn t k m d l v s e f = less-first t k l v ∙ rw e (rw (d, add-one) at f)
+rest-turn t k m d l v s e f = without-first t k l v ∙ rw e (rw (d, add-one) at f)
 
 size-turn : (l t : ℤ) (w m k b : ℕ) → natAbs t ≤ w * 32768 → m ≡ k + w → natAbs l + 32768 * m ≤ b → natAbs (l -ℤ t) + 32768 * k ≤ b
 size-turn l t w m k b h e q = omega (arith, abs-sub l t)
@@ -113,7 +113,7 @@ module _ (a : List ℤ) (x u : ℤ) (y : List ℤ) (n : ℕ) where
         low = x *ℤ at a 0 -ℤ at a 10 *ℤ at y (n - 10);
         high = u *ℤ at a 0;
         sum = rw (e, f, both-times) (both-sub-low (x *ℤ at a 0) (u *ℤ at a 0) (at a 10 *ℤ at y (n - 10)));
-        low-rest = less-first (term a y n) 9 (x *ℤ at a 0) (at a 10 *ℤ at y (n - 10));
+        low-rest = without-first (term a y n) 9 (x *ℤ at a 0) (at a 10 *ℤ at y (n - 10));
         high-rest = refl;
         low-size = omega (arith, abs-sub (x *ℤ at a 0) (at a 10 *ℤ at y (n - 10)), excitation-size x (at a 0) hx, product-size (at a 10) (at y (n - 10)) hv, size-sum-more a 9);
         high-size = omega (arith, excitation-size u (at a 0) hu);
@@ -194,8 +194,8 @@ module _ (a : List ℤ) (u : ℤ) (y : List ℤ) (n : ℕ) (w : ℤ) (from : 10 
   unfolding whole-sum next-sum steps
   sum-next =
       let e : n + 1 - (0 + 1) ≡ n = omega arith in
-      less-front (term a (set y n w) (n + 1)) 9 (u *ℤ at a 0)
-      ∙ ap (λ (k : ℕ). less (λ i. term a (set y n w) (n + 1) (suc i)) 9 (u *ℤ at a 0) -ℤ at a 1 *ℤ at (set y n w) k) e
+      without-front (term a (set y n w) (n + 1)) 9 (u *ℤ at a 0)
+      ∙ ap (λ (k : ℕ). without (λ i. term a (set y n w) (n + 1) (suc i)) 9 (u *ℤ at a 0) -ℤ at a 1 *ℤ at (set y n w) k) e
       ∙ ap (λ (z : ℤ). z -ℤ at a 1 *ℤ at (set y n w) n)
       (steps-same _ _ 9 (u *ℤ at a 0) (λ i b r. ap (λ (z : ℤ). r -ℤ at a (i + 1 + 1) *ℤ z) (older i b)))
 
