@@ -7,7 +7,6 @@ ghost use Rattle.basic_op.specs.Ops.{low16};
 ghost use Rattle.laws.specs.Lists.{at};
 ghost use Rattle.replay.specs.Replay.{count-at, count, unequal, compare, compared, differ};
 use crate::part;
-use libc::STDOUT_FILENO;
 
 // One more, and no more than fits.
 fn one_more(x: u32) -> u32
@@ -96,24 +95,4 @@ pub fn differ(tally: &[u32; 64], row: usize) -> u32
         return tally[2 * row + 1];
     }
     0
-}
-
-// Prints a line of two counts, each behind its name.
-pub fn print_two(first: &[u8], m: u32, second: &[u8], n: u32) {
-    io::write_all(STDOUT_FILENO, first);
-    io::print_decimal(STDOUT_FILENO, m as u64);
-    io::write_all(STDOUT_FILENO, second);
-    io::print_decimal(STDOUT_FILENO, n as u64);
-    io::write_all(STDOUT_FILENO, b"\n");
-}
-
-// Prints a row behind its name.
-pub fn print_row(name: &[u8], tally: &[u32; 64], row: usize) {
-    io::write_all(STDOUT_FILENO, name);
-    print_two(
-        b" compared ",
-        compared(tally, row),
-        b" differ ",
-        differ(tally, row),
-    );
 }

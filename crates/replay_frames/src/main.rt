@@ -11,6 +11,20 @@ use libc::STDIN_FILENO;
 use replay::part;
 use replay::tally;
 
+// The letter of the next line; 0 at the end.
+fn letter() -> u8 {
+    let mut byte = [0u8; 1];
+    io::read_full(STDIN_FILENO, &mut byte);
+    byte[0]
+}
+
+// Reads the next bytes, as many as `text` has room for: a line without its letter; and fills `words` from them. False where the input ends before.
+fn read_words(text: &mut [u8], words: &mut [i16]) -> bool {
+    let n = io::read_full(STDIN_FILENO, text);
+    replay::hex::words(text, words);
+    n == text.len()
+}
+
 // How many of the ten bytes of a payload a kind has: 10, 2, 0 and 0.
 fn size(kind: u32, most: usize) -> usize
     ensures { λ r. ⌜ r ≤ most ⌝ }
@@ -39,7 +53,7 @@ fn decode(t: &[i16], b: &mut [i16], f: &[i16], row: usize, tally: &mut [u32; 64]
 
 fn table_line(t: &mut [i16; 1880]) -> bool {
     let mut text = [0u8; 7521];
-    replay::read_words(&mut text, t)
+    read_words(&mut text, t)
 }
 
 // A call begins in the fresh state.
@@ -62,7 +76,7 @@ fn fresh_line(
 // A call begins in the state of the line.
 fn state_line(whole: &mut [i16; 234], resumed: &mut [i16; 234], tally: &mut [u32; 64]) -> bool {
     let mut text = [0u8; 937];
-    let more = replay::read_words(&mut text, whole);
+    let more = read_words(&mut text, whole);
     part::fill(whole, 0, resumed);
     tally::count(tally, rows::CALLS, false);
     more
@@ -76,7 +90,7 @@ fn frame_line(
 ) -> bool {
     let mut text = [0u8; 365];
     let mut f = [0i16; 91];
-    if replay::read_words(&mut text, &mut f) {
+    if read_words(&mut text, &mut f) {
         tally::count(tally, rows::FRAMES, false);
         decode(t, whole, &f, rows::WHOLE_SAMPLES, tally);
         decode(t, resumed, &f, rows::RESUMED_SAMPLES, tally);
@@ -89,7 +103,7 @@ fn frame_line(
 fn end_line(whole: &[i16; 234], resumed: &mut [i16; 234], tally: &mut [u32; 64]) -> bool {
     let mut text = [0u8; 937];
     let mut s = [0i16; 234];
-    if replay::read_words(&mut text, &mut s) {
+    if read_words(&mut text, &mut s) {
         tally::words(tally, rows::WHOLE_STATES, &s, 0, whole);
         tally::words(tally, rows::RESUMED_STATES, &s, 0, resumed);
         part::fill(&s, 0, resumed);
@@ -101,7 +115,7 @@ fn end_line(whole: &[i16; 234], resumed: &mut [i16; 234], tally: &mut [u32; 64])
 fn refusal_line(tally: &mut [u32; 64]) -> bool {
     let mut text = [0u8; 53];
     let mut words = [0i16; 13];
-    if replay::read_words(&mut text, &mut words) {
+    if read_words(&mut text, &mut words) {
         refusals::line(&words, tally);
         return true;
     }
@@ -115,7 +129,7 @@ fn line(
     resumed: &mut [i16; 234],
     tally: &mut [u32; 64],
 ) -> bool {
-    match replay::letter() {
+    match letter() {
         b'T' => table_line(t),
         b'N' => fresh_line(t, whole, resumed, tally),
         b'S' => state_line(whole, resumed, tally),

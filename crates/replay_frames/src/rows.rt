@@ -1,6 +1,6 @@
 // The rows of the tally: what each counts, and how they are printed.
+use libc::STDOUT_FILENO;
 use replay::tally;
-use replay::tally::print_row;
 
 pub const CALLS: usize = 0;
 
@@ -20,8 +20,28 @@ pub const REFUSALS: usize = 7;
 
 pub const UNCHANGED: usize = 8;
 
+// Prints a line of two counts, each behind its name.
+fn print_two(first: &[u8], m: u32, second: &[u8], n: u32) {
+    io::write_all(STDOUT_FILENO, first);
+    io::print_decimal(STDOUT_FILENO, m as u64);
+    io::write_all(STDOUT_FILENO, second);
+    io::print_decimal(STDOUT_FILENO, n as u64);
+    io::write_all(STDOUT_FILENO, b"\n");
+}
+
+// Prints a row behind its name.
+fn print_row(name: &[u8], tally: &[u32; 64], row: usize) {
+    io::write_all(STDOUT_FILENO, name);
+    print_two(
+        b" compared ",
+        tally::compared(tally, row),
+        b" differ ",
+        tally::differ(tally, row),
+    );
+}
+
 pub(crate) fn print(tally: &[u32; 64]) {
-    tally::print_two(
+    print_two(
         b"calls ",
         tally::compared(tally, CALLS),
         b" frames ",

@@ -34,12 +34,11 @@ fn line(tally: &mut [u32; 64]) -> bool {
 
 fn print_row(tally: &[u32; 64], op: usize) {
     io::print_hex(STDOUT_FILENO, op as u64, 2);
-    tally::print_two(
-        b" calls ",
-        tally::compared(tally, op),
-        b" differ ",
-        tally::differ(tally, op),
-    );
+    io::write_all(STDOUT_FILENO, b" calls ");
+    io::print_decimal(STDOUT_FILENO, tally::compared(tally, op) as u64);
+    io::write_all(STDOUT_FILENO, b" differ ");
+    io::print_decimal(STDOUT_FILENO, tally::differ(tally, op) as u64);
+    io::write_all(STDOUT_FILENO, b"\n");
 }
 
 fn print_rows(tally: &[u32; 64]) {

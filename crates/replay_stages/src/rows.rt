@@ -1,6 +1,6 @@
 // The rows of the tally: what each counts, and how they are printed.
+use libc::STDOUT_FILENO;
 use replay::tally;
-use replay::tally::print_row;
 
 pub const CASES: usize = 0;
 
@@ -48,6 +48,26 @@ pub const RECONSTRUCT: usize = 21;
 
 pub const CARRIED: usize = 22;
 
+// Prints a line of two counts, each behind its name.
+fn print_two(first: &[u8], m: u32, second: &[u8], n: u32) {
+    io::write_all(STDOUT_FILENO, first);
+    io::print_decimal(STDOUT_FILENO, m as u64);
+    io::write_all(STDOUT_FILENO, second);
+    io::print_decimal(STDOUT_FILENO, n as u64);
+    io::write_all(STDOUT_FILENO, b"\n");
+}
+
+// Prints a row behind its name.
+fn print_row(name: &[u8], tally: &[u32; 64], row: usize) {
+    io::write_all(STDOUT_FILENO, name);
+    print_two(
+        b" compared ",
+        tally::compared(tally, row),
+        b" differ ",
+        tally::differ(tally, row),
+    );
+}
+
 fn print_parameters(tally: &[u32; 64]) {
     print_row(b"bitstream::unpack", tally, UNPACK);
     print_row(b"adaptive::parity_ok", tally, PARITY);
@@ -76,7 +96,7 @@ fn print_code_and_signal(tally: &[u32; 64]) {
 }
 
 pub(crate) fn print(tally: &[u32; 64]) {
-    tally::print_two(
+    print_two(
         b"cases ",
         tally::compared(tally, CASES),
         b" frames ",
