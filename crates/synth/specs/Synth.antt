@@ -1,4 +1,4 @@
--- Excitation and reconstructed speech: ITU-T G.729, clause 4.1.6, equation (75). The synthesis filter, and how a frame's excitation and speech lie, are in specs/Filter.antt of synth_filter.
+-- Excitation (ITU-T G.729, equation (75)) and reconstructed speech (clause 4.1.6). The synthesis filter, and how a frame's excitation and speech lie, are in specs/Filter.antt of synth_filter.
 use Prim.Native.Nat.{_+_, _^_}
 use mathlib.Core.Bool.{Bool, cond}
 use mathlib.Core.List.{List, map}

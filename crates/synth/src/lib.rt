@@ -1,4 +1,4 @@
-// Excitation and reconstructed speech: G.729 clause 4.1.6, equation (75), and the second synthesis after saturation. The caller lends the frame's
+// Excitation (G.729, equation (75)) and reconstructed speech (clause 4.1.6), with the second synthesis after saturation. The caller lends the frame's
 // 234 words of excitation (154 of the past, then 80) and its 90 words of speech (the last ten samples before it, then 80).
 ghost use mathlib.Core.Path.{_≡_};
 ghost use Prim.Native.Nat.{_≤_};
