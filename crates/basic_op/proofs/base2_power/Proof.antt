@@ -68,15 +68,5 @@ returns c =
 pub base2-power-spec : {M : Type 1} → statement M
 base2-power-spec =
     tie.close
-    (tie.spec
-    low16-requires
-    cast-segment
-    mul-weight
-    cast-weight
-    pow2-requires
-    add-pow2
-    pow2-requires-2
-    interpolate-q15-requires
-    sub-requires
-    l-shr-r-requires
-    returns)
+    (tie.spec low16-requires cast-segment mul-weight cast-weight pow2-requires add-pow2 pow2-requires-2 interpolate-q15-requires sub-requires
+    l-shr-r-requires returns)

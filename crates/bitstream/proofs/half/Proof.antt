@@ -67,22 +67,5 @@ returns c =
 pub half-spec : {M : Type 1} → statement M
 half-spec =
     tie.close
-    (tie.spec
-    byte-requires
-    add-byte
-    byte-requires-2
-    add-byte-2
-    byte-requires-3
-    add-byte-3
-    byte-requires-4
-    add-byte-4
-    byte-requires-5
-    mul-result
-    add-result
-    mul-result-2
-    add-result-2
-    mul-result-3
-    add-result-3
-    mul-result-4
-    add-result-4
-    returns)
+    (tie.spec byte-requires add-byte byte-requires-2 add-byte-2 byte-requires-3 add-byte-3 byte-requires-4 add-byte-4 byte-requires-5 mul-result
+    add-result mul-result-2 add-result-2 mul-result-3 add-result-3 mul-result-4 add-result-4 returns)

@@ -56,16 +56,5 @@ returns c =
 pub store-spec : {M : Type 1} → statement M
 store-spec =
     tie.close
-    (tie.spec
-    Inv-loop
-    μ-loop
-    loop-holds
-    mul-receiver
-    array-read-receiver
-    mul-receiver-2
-    slice-write-receiver
-    add-i
-    loop-less
-    loop-again
-    same-length
+    (tie.spec Inv-loop μ-loop loop-holds mul-receiver array-read-receiver mul-receiver-2 slice-write-receiver add-i loop-less loop-again same-length
     returns)

@@ -84,22 +84,6 @@ returns c =
 pub unpack-spec : {M : Type 1} → statement M
 unpack-spec =
     tie.close
-    (tie.spec
-    half-requires
-    half-requires-2
-    field-requires
-    field-requires-2
-    field-requires-3
-    field-requires-4
-    field-requires-5
-    field-requires-6
-    field-requires-7
-    field-requires-8
-    field-requires-9
-    field-requires-10
-    field-requires-11
-    field-requires-12
-    field-requires-13
-    field-requires-14
-    field-requires-15
-    returns)
+    (tie.spec half-requires half-requires-2 field-requires field-requires-2 field-requires-3 field-requires-4 field-requires-5 field-requires-6
+    field-requires-7 field-requires-8 field-requires-9 field-requires-10 field-requires-11 field-requires-12 field-requires-13 field-requires-14
+    field-requires-15 returns)

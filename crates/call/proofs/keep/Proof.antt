@@ -59,18 +59,5 @@ returns-2 c =
 pub keep-spec : {M : Type 1} → statement M
 keep-spec =
     tie.close
-    (tie.spec
-    Inv-loop
-    μ-loop
-    (λ c κs. search needs)
-    returns
-    (λ c. search needs)
-    loop-holds
-    add-input
-    slice-read-input
-    slice-write-input
-    add-i
-    (λ c. search needs)
-    loop-again
-    (λ c. search needs)
-    returns-2)
+    (tie.spec Inv-loop μ-loop (λ c κs. search needs) returns (λ c. search needs) loop-holds add-input slice-read-input slice-write-input add-i
+    (λ c. search needs) loop-again (λ c. search needs) returns-2)

@@ -44,15 +44,5 @@ returns c = steps-end _ _ 4 _ _ (c .before .loop .inv .1) (omega arith) ∙ code
 pub codevector-spec : {M : Type 1} → statement M
 codevector-spec =
     tie.close
-    (tie.spec
-    Inv-loop
-    μ-loop
-    (λ c. (search needs, steps-none _ _))
-    (λ c κs. search needs)
-    (λ c κs. search needs)
-    mul-code
-    array-set-from-code
-    (λ c. search needs)
-    (λ c. search needs)
-    loop-again
-    returns)
+    (tie.spec Inv-loop μ-loop (λ c. (search needs, steps-none _ _)) (λ c κs. search needs) (λ c κs. search needs) mul-code array-set-from-code
+    (λ c. search needs) (λ c. search needs) loop-again returns)

@@ -39,15 +39,5 @@ returns c = steps-end _ _ 4 _ _ (c .before .loop .inv .1) (omega arith)
 pub error-sum-spec : {M : Type 1} → statement M
 error-sum-spec =
     tie.close
-    (tie.spec
-    Inv-loop
-    μ-loop
-    (λ c. (search needs, steps-none _ _))
-    (λ c. search needs)
-    (λ c. search needs)
-    cast-l-add
-    (λ c κs. search needs)
-    (λ c. search needs)
-    (λ c. search needs)
-    loop-again
-    returns)
+    (tie.spec Inv-loop μ-loop (λ c. (search needs, steps-none _ _)) (λ c. search needs) (λ c. search needs) cast-l-add (λ c κs. search needs)
+    (λ c. search needs) (λ c. search needs) loop-again returns)

@@ -87,22 +87,6 @@ returns-6 c =
 pub line-spec : {M : Type 1} → statement M
 line-spec =
     tie.close
-    (tie.spec
-    returns
-    (λ c. search needs)
-    (λ c κs. search needs)
-    put-requires
-    (λ c. search needs)
-    returns-2
-    (λ c. search needs)
-    (λ c κs. search needs)
-    put-requires-2
-    (λ c. search needs)
-    returns-3
-    (λ c. search needs)
-    (λ c κs. search needs)
-    returns-4
-    (λ c. search needs)
-    (λ c κs. search needs)
-    returns-5
-    returns-6)
+    (tie.spec returns (λ c. search needs) (λ c κs. search needs) put-requires (λ c. search needs) returns-2 (λ c. search needs) (λ c κs. search needs)
+    put-requires-2 (λ c. search needs) returns-3 (λ c. search needs) (λ c κs. search needs) returns-4 (λ c. search needs) (λ c κs. search needs)
+    returns-5 returns-6)

@@ -68,15 +68,5 @@ returns c =
 pub coefficients-spec : {M : Type 1} → statement M
 coefficients-spec =
     tie.close
-    (tie.spec
-    half-sum-requires
-    half-sum-requires-2
-    half-sum-requires-3
-    half-sum-requires-4
-    half-sum-requires-5
-    half-difference-requires
-    half-difference-requires-2
-    half-difference-requires-3
-    half-difference-requires-4
-    half-difference-requires-5
-    returns)
+    (tie.spec half-sum-requires half-sum-requires-2 half-sum-requires-3 half-sum-requires-4 half-sum-requires-5 half-difference-requires
+    half-difference-requires-2 half-difference-requires-3 half-difference-requires-4 half-difference-requires-5 returns)

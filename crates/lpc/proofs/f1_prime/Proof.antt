@@ -32,11 +32,4 @@ returns c = via2 w32 w32 w32 l-add _ _ _ (c .before .before .l-add-arg .given) (
 pub f1-prime-spec : {M : Type 1} → statement M
 f1-prime-spec =
     tie.close
-    (tie.spec
-    mul-l-add
-    array-copy-out-l-add
-    sub-l-add
-    mul-l-add-2
-    array-copy-out-l-add-2
-    l-add-requires
-    returns)
+    (tie.spec mul-l-add array-copy-out-l-add sub-l-add mul-l-add-2 array-copy-out-l-add-2 l-add-requires returns)

@@ -32,11 +32,4 @@ returns c = via2 w32 w32 w32 l-sub _ _ _ (c .before .before .l-sub-arg .given) (
 pub f2-prime-spec : {M : Type 1} → statement M
 f2-prime-spec =
     tie.close
-    (tie.spec
-    mul-l-sub
-    array-copy-out-l-sub
-    sub-l-sub
-    mul-l-sub-2
-    array-copy-out-l-sub-2
-    l-sub-requires
-    returns)
+    (tie.spec mul-l-sub array-copy-out-l-sub sub-l-sub mul-l-sub-2 array-copy-out-l-sub-2 l-sub-requires returns)

@@ -67,18 +67,6 @@ returns c =
 pub lsp-to-lp-spec : {M : Type 1} → statement M
 lsp-to-lp-spec =
     tie.close
-    (tie.spec
-    array-copy-out-polynomial
-    array-copy-out-polynomial-2
-    array-copy-out-polynomial-3
-    array-copy-out-polynomial-4
-    array-copy-out-polynomial-5
-    polynomial-requires
-    array-copy-out-polynomial-6
-    array-copy-out-polynomial-7
-    array-copy-out-polynomial-8
-    array-copy-out-polynomial-9
-    array-copy-out-polynomial-10
-    polynomial-requires-2
-    coefficients-requires
-    returns)
+    (tie.spec array-copy-out-polynomial array-copy-out-polynomial-2 array-copy-out-polynomial-3 array-copy-out-polynomial-4
+    array-copy-out-polynomial-5 polynomial-requires array-copy-out-polynomial-6 array-copy-out-polynomial-7 array-copy-out-polynomial-8
+    array-copy-out-polynomial-9 array-copy-out-polynomial-10 polynomial-requires-2 coefficients-requires returns)

@@ -115,20 +115,6 @@ returns c =
 pub polynomial-spec : {M : Type 1} → statement M
 polynomial-spec =
     tie.close
-    (tie.spec
-    small-top-requires
-    small-step-requires
-    small-top-requires-2
-    small-step-requires-2
-    small-step-requires-3
-    small-top-requires-3
-    small-step-requires-4
-    small-step-requires-5
-    small-step-requires-6
-    small-top-requires-4
-    small-step-requires-7
-    small-step-requires-8
-    small-step-requires-9
-    step-requires
-    top-requires
-    returns)
+    (tie.spec small-top-requires small-step-requires small-top-requires-2 small-step-requires-2 small-step-requires-3 small-top-requires-3
+    small-step-requires-4 small-step-requires-5 small-step-requires-6 small-top-requires-4 small-step-requires-7 small-step-requires-8
+    small-step-requires-9 step-requires top-requires returns)

@@ -55,11 +55,4 @@ returns c =
 pub small-step-spec : {M : Type 1} → statement M
 small-step-spec =
     tie.close
-    (tie.spec
-    cast-result
-    twice-product-requires
-    sub-result
-    cast-result-2
-    add-result
-    cast-result-3
-    returns)
+    (tie.spec cast-result twice-product-requires sub-result cast-result-2 add-result cast-result-3 returns)

@@ -17,8 +17,4 @@ returns c =
 pub halfway-spec : {M : Type 1} → statement M
 halfway-spec =
     tie.close
-    (tie.spec
-    (λ c κs. search needs)
-    (λ c κs. search needs)
-    (λ c κs. search needs)
-    returns)
+    (tie.spec (λ c κs. search needs) (λ c κs. search needs) (λ c κs. search needs) returns)

@@ -24,8 +24,4 @@ returns-2 c =
 pub keep-distance-spec : {M : Type 1} → statement M
 keep-distance-spec =
     tie.close
-    (tie.spec
-    (λ c κs. search needs)
-    (λ c κs. search needs)
-    returns
-    returns-2)
+    (tie.spec (λ c κs. search needs) (λ c κs. search needs) returns returns-2)

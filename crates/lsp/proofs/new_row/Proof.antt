@@ -12,8 +12,4 @@ returns c = c .enforce-spacing2 .ensures ∙ rw (c .before .enforce-spacing .ens
 pub new-row-spec : {M : Type 1} → statement M
 new-row-spec =
     tie.close
-    (tie.spec
-    (λ c κs. search needs)
-    (λ c κs. search needs)
-    (λ c κs. search needs)
-    returns)
+    (tie.spec (λ c κs. search needs) (λ c κs. search needs) (λ c κs. search needs) returns)

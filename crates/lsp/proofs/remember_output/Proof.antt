@@ -20,8 +20,4 @@ returns c =
 pub remember-output-spec : {M : Type 1} → statement M
 remember-output-spec =
     tie.close
-    (tie.spec
-    (λ c. search needs)
-    (λ c. search needs)
-    (λ c. search needs)
-    returns)
+    (tie.spec (λ c. search needs) (λ c. search needs) (λ c. search needs) returns)

@@ -15,10 +15,4 @@ returns-2 c = rw (le-ltb _ _ (c .before .if1 .left)) (via w16 _ (c .result2 .giv
 pub second-stage-spec : {M : Type 1} → statement M
 second-stage-spec =
     tie.close
-    (tie.spec
-    (λ c. search needs)
-    (λ c. search needs)
-    returns
-    (λ c. search needs)
-    (λ c. search needs)
-    returns-2)
+    (tie.spec (λ c. search needs) (λ c. search needs) returns (λ c. search needs) (λ c. search needs) returns-2)

@@ -27,12 +27,4 @@ returns c = steps-end _ _ 9 _ _ (c .before .loop .inv .1) (omega arith) ∙ rw (
 pub spread-spec : {M : Type 1} → statement M
 spread-spec =
     tie.close
-    (tie.spec
-    Inv-loop
-    μ-loop
-    (λ c. (search needs, steps-none _ _))
-    (λ c κs. search needs)
-    (λ c. search needs)
-    (λ c. search needs)
-    loop-again
-    returns)
+    (tie.spec Inv-loop μ-loop (λ c. (search needs, steps-none _ _)) (λ c κs. search needs) (λ c. search needs) (λ c. search needs) loop-again returns)

@@ -11,9 +11,4 @@ returns c = rw (c .lsp-to-lp2 .ensures, c .before .lsp-to-lp .ensures, c .before
 pub to-spectrum-spec : {M : Type 1} → statement M
 to-spectrum-spec =
     tie.close
-    (tie.spec
-    (λ c κs. search needs)
-    (λ c κs. search needs)
-    (λ c κs. search needs)
-    (λ c κs. search needs)
-    returns)
+    (tie.spec (λ c κs. search needs) (λ c κs. search needs) (λ c κs. search needs) (λ c κs. search needs) returns)

@@ -32,17 +32,5 @@ returns c = filled-map (λ x. shrZ x (2 ^ 2)) (c .before .before .args .exc .now
 pub divide-by-4-spec : {M : Type 1} → statement M
 divide-by-4-spec =
     tie.close
-    (tie.spec
-    Inv-loop
-    μ-loop
-    (λ c. (filled-none _ _, (search needs, (refl, refl))))
-    (λ c. search needs)
-    (λ c. search needs)
-    (λ c κs. search needs)
-    (λ c. search needs)
-    (λ c. search needs)
-    (λ c. search needs)
-    (λ c. search needs)
-    loop-again
-    (λ c. search needs)
-    returns)
+    (tie.spec Inv-loop μ-loop (λ c. (filled-none _ _, (search needs, (refl, refl)))) (λ c. search needs) (λ c. search needs) (λ c κs. search needs)
+    (λ c. search needs) (λ c. search needs) (λ c. search needs) (λ c. search needs) loop-again (λ c. search needs) returns)

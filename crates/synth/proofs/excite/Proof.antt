@@ -35,11 +35,4 @@ returns-2 c =
 pub excite-spec : {M : Type 1} → statement M
 excite-spec =
     tie.close
-    (tie.spec
-    excite-whole-requires
-    returns
-    (λ c κs. search needs)
-    (λ c κs. search needs)
-    (λ c κs. search needs)
-    (λ c κs. search needs)
-    returns-2)
+    (tie.spec excite-whole-requires returns (λ c κs. search needs) (λ c κs. search needs) (λ c κs. search needs) (λ c κs. search needs) returns-2)

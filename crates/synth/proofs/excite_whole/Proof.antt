@@ -54,15 +54,4 @@ returns c =
 pub excite-whole-spec : {M : Type 1} → statement M
 excite-whole-spec =
     tie.close
-    (tie.spec
-    cast-sum
-    cast-sum-2
-    mul-sum
-    cast-sum-3
-    cast-sum-4
-    mul-sum-2
-    add-sum
-    add-sar32
-    (λ c κs. search needs)
-    (λ c κs. search needs)
-    returns)
+    (tie.spec cast-sum cast-sum-2 mul-sum cast-sum-3 cast-sum-4 mul-sum-2 add-sum add-sar32 (λ c κs. search needs) (λ c κs. search needs) returns)

@@ -102,17 +102,5 @@ returns c =
 pub first-of-two-spec : {M : Type 1} → statement M
 first-of-two-spec =
     tie.close
-    (tie.spec
-    (λ c κs. search needs)
-    add-sar64
-    (λ c κs. search needs)
-    mul-low
-    sub-low
-    (λ c. omega arith)
-    (λ c κs. search needs)
-    sub-next
-    (λ c. omega arith)
-    (λ c κs. search needs)
-    sub-rounded
-    (λ c κs. search needs)
-    returns)
+    (tie.spec (λ c κs. search needs) add-sar64 (λ c κs. search needs) mul-low sub-low (λ c. omega arith) (λ c κs. search needs) sub-next
+    (λ c. omega arith) (λ c κs. search needs) sub-rounded (λ c κs. search needs) returns)

@@ -48,16 +48,5 @@ returns c = number-end (c .before .before .before .before .args .bytes .now) (c 
 pub number-spec : {M : Type 1} → statement M
 number-spec =
     tie.close
-    (tie.spec
-    Inv-loop
-    μ-loop
-    (λ c κs. search needs)
-    loop-holds
-    (λ c. search needs)
-    mul-n
-    (λ c. search needs)
-    cast-n
-    add-n
-    (λ c. search needs)
-    loop-again
-    returns)
+    (tie.spec Inv-loop μ-loop (λ c κs. search needs) loop-holds (λ c. search needs) mul-n (λ c. search needs) cast-n add-n (λ c. search needs)
+    loop-again returns)

@@ -35,14 +35,5 @@ returns-4 c =
 pub first-words-spec : {M : Type 1} → statement M
 first-words-spec =
     tie.close
-    (tie.spec
-    (λ c κs. search needs)
-    returns
-    (λ c. search needs)
-    (λ c. search needs)
-    (λ c κs. search needs)
-    returns-2
-    words-requires
-    returns-3
-    words-requires-2
-    returns-4)
+    (tie.spec (λ c κs. search needs) returns (λ c. search needs) (λ c. search needs) (λ c κs. search needs) returns-2 words-requires returns-3
+    words-requires-2 returns-4)

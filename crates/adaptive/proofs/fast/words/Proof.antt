@@ -59,21 +59,6 @@ returns-3 c = (search needs, c .before .loop .inv .1)
 pub words-spec : {M : Type 1} → statement M
 words-spec =
     tie.close
-    (tie.spec
-    Inv-loop
-    μ-loop
-    (λ c. (search needs, (c .pre .1 .1 .1, λ l e. e)))
-    (λ c. search needs)
-    (λ c. search needs)
-    (λ c. search needs)
-    word-requires
-    returns
-    returns-2
-    cast-exc
-    (λ c. search needs)
-    (λ c. search needs)
-    (λ c. search needs)
-    (λ c. search needs)
-    (λ c. search needs)
-    loop-again
-    returns-3)
+    (tie.spec Inv-loop μ-loop (λ c. (search needs, (c .pre .1 .1 .1, λ l e. e))) (λ c. search needs) (λ c. search needs) (λ c. search needs)
+    word-requires returns returns-2 cast-exc (λ c. search needs) (λ c. search needs) (λ c. search needs) (λ c. search needs) (λ c. search needs)
+    loop-again returns-3)

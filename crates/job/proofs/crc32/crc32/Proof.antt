@@ -28,13 +28,5 @@ returns c =
 pub crc32-spec : {M : Type 1} → statement M
 crc32-spec =
     tie.close
-    (tie.spec
-    Inv-loop
-    μ-loop
-    (λ c. (search needs, run-none _ (c .before .args .bytes .now)))
-    (λ c. search needs)
-    (λ c κs. search needs)
-    (λ c. search needs)
-    (λ c. search needs)
-    loop-again
-    returns)
+    (tie.spec Inv-loop μ-loop (λ c. (search needs, run-none _ (c .before .args .bytes .now))) (λ c. search needs) (λ c κs. search needs)
+    (λ c. search needs) (λ c. search needs) loop-again returns)

@@ -10,11 +10,4 @@ returns c = (c .total .ensures .0, saved-is _ _ _ _ (c .total .ensures .1 .0) (c
 pub saved-spec : {M : Type 1} → statement M
 saved-spec =
     tie.close
-    (tie.spec
-    (λ c κs. search needs)
-    (λ c. search needs)
-    (λ c. search needs)
-    (λ c. search needs)
-    (λ c. search needs)
-    (λ c. search needs)
-    returns)
+    (tie.spec (λ c κs. search needs) (λ c. search needs) (λ c. search needs) (λ c. search needs) (λ c. search needs) (λ c. search needs) returns)

@@ -47,16 +47,5 @@ returns-4 c =
 pub wanted-spec : {M : Type 1} → statement M
 wanted-spec =
     tie.close
-    (tie.spec
-    Inv-loop
-    μ-loop
-    returns
-    (λ c. (search needs, search needs, refl))
-    (λ c. search needs)
-    returns-2
-    returns-3
-    (λ c κs. search needs)
-    (λ c. search needs)
-    (λ c. search needs)
-    loop-again
-    returns-4)
+    (tie.spec Inv-loop μ-loop returns (λ c. (search needs, search needs, refl)) (λ c. search needs) returns-2 returns-3 (λ c κs. search needs)
+    (λ c. search needs) (λ c. search needs) loop-again returns-4)

@@ -52,19 +52,5 @@ returns c = search needs
 pub log-block-spec : {M : Type 1} → statement M
 log-block-spec =
     tie.close
-    (tie.spec
-    Inv-loop
-    μ-loop
-    loop-holds
-    extract-l-requires
-    add-block
-    mul-block
-    array-set-from-block
-    mul-l-add
-    add-l-add
-    cast-l-add
-    l-add-requires
-    add-i
-    loop-less
-    loop-again
-    returns)
+    (tie.spec Inv-loop μ-loop loop-holds extract-l-requires add-block mul-block array-set-from-block mul-l-add add-l-add cast-l-add l-add-requires
+    add-i loop-less loop-again returns)

@@ -8,8 +8,7 @@ pub lsp-cosine-spec : {M : Type 1} → statement M
 unfolding lsp-cosine
 lsp-cosine-spec =
     tie.close
-    (tie.spec
-    (λ c. entry lsp-cosine (c .match .keys1)) (λ c. entry lsp-cosine (c .match .keys2)) (λ c. entry lsp-cosine (c .match .keys3))
+    (tie.spec (λ c. entry lsp-cosine (c .match .keys1)) (λ c. entry lsp-cosine (c .match .keys2)) (λ c. entry lsp-cosine (c .match .keys3))
     (λ c. entry lsp-cosine (c .match .keys4)) (λ c. entry lsp-cosine (c .match .keys5)) (λ c. entry lsp-cosine (c .match .keys6))
     (λ c. entry lsp-cosine (c .match .keys7)) (λ c. entry lsp-cosine (c .match .keys8)) (λ c. entry lsp-cosine (c .match .keys9))
     (λ c. entry lsp-cosine (c .match .keys10)) (λ c. entry lsp-cosine (c .match .keys11)) (λ c. entry lsp-cosine (c .match .keys12))
@@ -30,5 +29,4 @@ lsp-cosine-spec =
     (λ c. entry lsp-cosine (c .match .keys55)) (λ c. entry lsp-cosine (c .match .keys56)) (λ c. entry lsp-cosine (c .match .keys57))
     (λ c. entry lsp-cosine (c .match .keys58)) (λ c. entry lsp-cosine (c .match .keys59)) (λ c. entry lsp-cosine (c .match .keys60))
     (λ c. entry lsp-cosine (c .match .keys61)) (λ c. entry lsp-cosine (c .match .keys62)) (λ c. entry lsp-cosine (c .match .keys63))
-    (λ c. entry lsp-cosine (c .match .keys64))
-    (λ c. beyond lsp-cosine _ (c .match .rest)))
+    (λ c. entry lsp-cosine (c .match .keys64)) (λ c. beyond lsp-cosine _ (c .match .rest)))

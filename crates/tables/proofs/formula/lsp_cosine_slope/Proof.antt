@@ -30,5 +30,4 @@ lsp-cosine-slope-spec =
     (λ c. entry lsp-cosine-slope (c .match .keys55)) (λ c. entry lsp-cosine-slope (c .match .keys56)) (λ c. entry lsp-cosine-slope (c .match .keys57))
     (λ c. entry lsp-cosine-slope (c .match .keys58)) (λ c. entry lsp-cosine-slope (c .match .keys59)) (λ c. entry lsp-cosine-slope (c .match .keys60))
     (λ c. entry lsp-cosine-slope (c .match .keys61)) (λ c. entry lsp-cosine-slope (c .match .keys62)) (λ c. entry lsp-cosine-slope (c .match .keys63))
-    (λ c. entry lsp-cosine-slope (c .match .keys64))
-    (λ c. beyond lsp-cosine-slope _ (c .match .rest)))
+    (λ c. entry lsp-cosine-slope (c .match .keys64)) (λ c. beyond lsp-cosine-slope _ (c .match .rest)))

@@ -8,8 +8,7 @@ pub pow2-spec : {M : Type 1} → statement M
 unfolding pow2
 pow2-spec =
     tie.close
-    (tie.spec
-    (λ c. entry pow2 (c .match .keys1)) (λ c. entry pow2 (c .match .keys2)) (λ c. entry pow2 (c .match .keys3))
+    (tie.spec (λ c. entry pow2 (c .match .keys1)) (λ c. entry pow2 (c .match .keys2)) (λ c. entry pow2 (c .match .keys3))
     (λ c. entry pow2 (c .match .keys4)) (λ c. entry pow2 (c .match .keys5)) (λ c. entry pow2 (c .match .keys6))
     (λ c. entry pow2 (c .match .keys7)) (λ c. entry pow2 (c .match .keys8)) (λ c. entry pow2 (c .match .keys9))
     (λ c. entry pow2 (c .match .keys10)) (λ c. entry pow2 (c .match .keys11)) (λ c. entry pow2 (c .match .keys12))
