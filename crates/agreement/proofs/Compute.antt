@@ -13,6 +13,7 @@ use Rattle.lpc.specs.Lpc as lpc
 use Rattle.adaptive.specs.Adaptive as adaptive
 use Rattle.fixed.specs.Fixed as fixed
 use Rattle.gain.specs.Gain as gain
+use Rattle.kind.specs.Kind as kind
 use Rattle.plc.specs.Kinds as plc
 use Rattle.state.specs.State as state
 use Rattle.parameters.specs.Parameters as parameters
@@ -29,5 +30,5 @@ unfolding Operators tables.row tables.log2 tables.scalar tables.table-check form
 Stages = Unit {0}
 
 unfoldable pub Run : Type 0
-unfolding Stages plc.payload-length plc.decide state.part state.read-params state.read-signal state.read state.delay-in-range state.predictor-in-range state.accepted state.state-check state.accepted-state parameters.sharpened parameters.subframe parameters.voice parameters.parameters decoder.decode call.input-check runs.code runs.frame-of runs.values-of runs.run
+unfolding Stages kind.payload-length plc.decide state.part state.read-params state.read-signal state.read state.delay-in-range state.predictor-in-range state.accepted state.state-check state.accepted-state parameters.sharpened parameters.subframe parameters.voice parameters.parameters decoder.decode call.input-check runs.code runs.frame-of runs.values-of runs.run
 Run = Unit {0}

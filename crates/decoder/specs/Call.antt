@@ -6,7 +6,8 @@ use lib.Dec.{eqb, ltb}
 use lib.IntN.{ℤ}
 use lib.ListN.{length}
 use Rattle.tables.specs.Layout.{table-check}
-use Rattle.plc.specs.Kinds.{payload-length, decide}
+use Rattle.kind.specs.Kind.{payload-length}
+use Rattle.plc.specs.Kinds.{decide}
 use Rattle.state.specs.State.{read, write, state-check}
 use Rattle.decoder.specs.Frame.{decode}
 

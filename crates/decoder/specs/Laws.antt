@@ -12,7 +12,8 @@ use lib.Seq.{take-all}
 use Rattle.laws.specs.Lists.{at, filled, filled-end, tab-part}
 use Rattle.tables.specs.Layout.{table-check}
 use Rattle.plc.specs.declared.Decision.{Decision}
-use Rattle.plc.specs.Kinds.{payload-length, decide}
+use Rattle.kind.specs.Kind.{payload-length}
+use Rattle.plc.specs.Kinds.{decide}
 use Rattle.state.specs.State.{part, read-params, read-signal, read, write-params, write, state-check}
 use Rattle.state.specs.declared.Params.{Params}
 use Rattle.state.specs.Laws.{accepted-of-check, accepted-parts}

@@ -51,7 +51,7 @@ pub fn input_check(kind: u32, payload: &[u8], room: usize) -> u32
     if kind > 3 {
         return 5;
     }
-    if payload.len() != plc::payload_length(kind) {
+    if payload.len() != kind::payload_length(kind) {
         return 6;
     }
     if room != 80 {

@@ -13,19 +13,10 @@ use Rattle.count.specs.declared.Counts.{Counts}
 use Rattle.count.specs.declared.Counted.{Counted}
 use Rattle.count.specs.Count.{count}
 use Rattle.line.specs.Line as Line
-use Rattle.plc.specs.Kinds.{payload-length}
+use Rattle.kind.specs.Kind.{payload-length}
 use Rattle.decoder.specs.Call as Frame
 use Rattle.print.specs.Print.{word, words, pcm}
 use Rattle.line_step.specs.Step.{Job, Step, stop, framed, counted, taken, line-step, kept, left}
-
-pub payload-few : (kind : ℕ) → payload-length kind ≤ 10
-unfolding payload-length
-payload-few kind = by (eqb kind 0) (eqb kind 1)
-  where
-    by : (p q : Bool) → cond p 10 (cond q 2 0) ≤ 10
-    by true q = omega arith
-    by false true = omega arith
-    by false false = omega arith
 
 -- what each operation's answer makes of a line
 module _ (t : List ℤ) (job : Job) (l : List ℕ) {code kind : ℕ} {bytes : List ℕ} (hl : Line.answer code kind bytes ≡ Line.line l (replicate 10 0)) where

@@ -9,7 +9,7 @@ use Rattle.count.specs.declared.Counts.{Counts}
 use Rattle.count.specs.declared.Counted.{Counted}
 use Rattle.count.specs.Count.{count}
 use Rattle.line.specs.Line as Line
-use Rattle.plc.specs.Kinds.{payload-length}
+use Rattle.kind.specs.Kind.{payload-length}
 use Rattle.decoder.specs.Call as Frame
 use Rattle.print.specs.Print.{pcm}
 

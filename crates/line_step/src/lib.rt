@@ -31,7 +31,7 @@ pub fn line_step(
             counts,
         };
     }
-    let n = plc::payload_length(read.kind);
+    let n = kind::payload_length(read.kind);
     let mut samples = [0i16; 80];
     let refusal = decoder::frame(t, b, read.kind, &payload[0..n], &mut samples);
     if refusal != 0 {

@@ -1,25 +1,12 @@
 // What a received frame is decoded as (G.729 clause 4.4): a voice frame by its fields, every other by concealment.
 ghost use mathlib.Core.Path.{_≡_};
-ghost use Rattle.plc.specs.Kinds.{payload-length, decide};
+ghost use Rattle.plc.specs.Kinds.{decide};
 use bitstream::SpeechParams;
 
 // A voice frame's fields, or that the frame is concealed.
 pub enum Decision {
     Voice(SpeechParams),
     Concealment,
-}
-
-// The length of the payload that a frame of a kind comes with.
-pub fn payload_length(kind: u32) -> usize
-    ensures { λ r. ⌜ r ≡ payload-length kind ⌝ }
-{
-    if kind == 0 {
-        10
-    } else if kind == 1 {
-        2
-    } else {
-        0
-    }
 }
 
 // What a frame is decoded as. Of an accepted frame the kind is at most 3, and the payload of kind 0 has ten bytes.

@@ -11,7 +11,7 @@ use lib.ListN.{length, take, drop, replicate, length-append, length-take, length
 use borrow.Author.Tests.{le-ltb, eq-eqb, ne-eqb}
 use Rattle.tables.specs.Layout.{table-check}
 use Rattle.state.specs.State.{state-check}
-use Rattle.plc.specs.Kinds.{payload-length}
+use Rattle.kind.specs.Kind.{payload-length}
 use Rattle.decoder.specs.Call as Frame
 use Rattle.accepted.specs.Accepted.{frame-accepted}
 use Rattle.line.specs.Line as Line
@@ -19,7 +19,7 @@ use Rattle.line.specs.Laws.{length-bytes}
 use Rattle.count.specs.declared.Counts.{Counts}
 use Rattle.count.specs.Count.{count}
 use Rattle.line_step.specs.Step.{Job, Step, stop, framed, counted, taken, line-step}
-use Rattle.line_step.specs.Laws.{payload-few}
+use Rattle.kind.specs.Laws.{payload-few}
 
 -- the numbers that refuse a line
 unfoldable pub refuses : ℕ → Bool

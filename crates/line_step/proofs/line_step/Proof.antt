@@ -3,8 +3,9 @@ use native.Mathlib.Omega.{arith}
 use mathlib.Core.Path.{refl}
 use denote.Ref.{now}
 use borrow.Author.Needs.{needs}
+use Rattle.kind.specs.Laws.{payload-few}
 use Rattle.line_step.specs.Step.{kept}
-use Rattle.line_step.specs.Laws.{payload-few, not-line, not-counted, is-framed, left-stop, left-refused, left-done}
+use Rattle.line_step.specs.Laws.{not-line, not-counted, is-framed, left-stop, left-refused, left-done}
 use Rattle.line_step.proofs.line_step.Statement.{statement}
 use Rattle.line_step.proofs.line_step.Tie as tie
 

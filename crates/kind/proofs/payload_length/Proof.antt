@@ -1,8 +1,8 @@
--- `plc::payload_length` meets its contract: each test picks its case of the definition.
+-- `kind::payload_length` meets its contract: each test picks its case of the definition.
 use borrow.Author.Tests.{eq-eqb, ne-eqb}
-use Rattle.plc.specs.Kinds.{payload-length}
-use Rattle.plc.proofs.payload_length.Statement.{statement}
-use Rattle.plc.proofs.payload_length.Tie as tie
+use Rattle.kind.specs.Kind.{payload-length}
+use Rattle.kind.proofs.payload_length.Statement.{statement}
+use Rattle.kind.proofs.payload_length.Tie as tie
 
 returns : tie.Need-returns
 unfolding payload-length

@@ -1,0 +1,3 @@
+-- The definitions that the contracts of `kind` cite, and their laws.
+pub mod Kind
+pub mod Laws
