@@ -2,7 +2,7 @@
 use mathlib.Core.Path.{_≡_, refl, ap, sym, _∙_}
 use mathlib.Core.Bool.{Bool, true, false, cond}
 use mathlib.Core.List.{List, [], _∷_, _++_, append-nil}
-use Prim.Native.Nat.{ℕ, suc, _+_, _≤_, _<_}
+use Prim.Native.Nat.{ℕ, suc, _+_, _^_, _≤_, _<_}
 use native.Mathlib.Nat.{add-zero}
 use native.Mathlib.Numerals.{add-one}
 use native.Mathlib.Omega.{arith}
@@ -11,7 +11,11 @@ use lib.Dec.{leb}
 use lib.IntN.{ℤ, pos}
 use lib.ListN.{length, take, drop, set, length-drop, take-append-drop, drop-of-length-le, List·getD-eq-default}
 use lib.Seq.{take-all, take-length, take-at, drop-at, drop-drop, drop-cons, getD-drop, append-snoc, set-split, paste, paste-suc, length-paste, take-paste}
-use Rattle.laws.specs.Lists.{at, tab-ext, length-tab, tab-part}
+use lib.Signed.{mag}
+use mir.Syntax.{Width}
+use mir.Val.{toZ, ofZ, hbits}
+use Rattle.laws.specs.Lists.{at, tab-ext, length-tab, tab-part, whole}
+use Rattle.laws.specs.Back.{via}
 use Rattle.block.specs.Block.{part, put, copy}
 
 -- ---- parts
@@ -87,6 +91,31 @@ pub put-front : (b v o : List ℤ) (n m : ℕ) → o ≡ put b n v → length v 
 put-front b v o n m e h g =
     let r : n + length v ≤ length b = omega arith in
     rw (e, put-room b v n r, ← h, take-paste b n v (length v) (omega arith) (omega arith), take-length v)
+
+-- ---- a block that is written from its front, a part at a time
+
+-- b has `size` words, of which the first n are p
+pub record Front (size : ℕ) (b : List ℤ) (n : ℕ) (p : List ℤ) : Type 0 where
+  pub words : take n b ≡ p
+  pub whole : length b ≡ size
+
+-- nothing is written yet
+pub front-none : {size : ℕ} (b : List ℤ) → length b ≡ size → Front size b 0 []
+front-none b h = record { words = refl; whole = h }
+
+-- the m words v more
+pub front-more : {size n : ℕ} {b o p : List ℤ} (v : List ℤ) (m : ℕ) → Front size b n p → o ≡ put b n v → length v ≡ m → n + m ≤ size → Front size o (n + m) (p ++ v)
+front-more {n = n} {b = b} {o = o} v m f e h g =
+    record { words = put-front b v o n m e h (omega (arith, f .whole)) ∙ rw (f .words); whole = rw e (length-put b v n ∙ f .whole) }
+
+-- the word z more, which went through a local
+pub front-one : {size n : ℕ} {b o p : List ℤ} (w : Width) (z : ℤ) → Front size b n p → o ≡ put b n (toZ w (ofZ w z) ∷ []) → mag z < 2 ^ hbits w → n + 1 ≤ size
+    → Front size o (n + 1) (p ++ (z ∷ []))
+front-one w z f e h g = front-more (z ∷ []) 1 f (e ∙ rw (via w z h)) refl g
+
+-- all are written
+pub front-all : {size : ℕ} {b p : List ℤ} → Front size b size p → b ≡ p
+front-all {size = size} {b = b} {p = p} f = whole p b size (f .words) (f .whole)
 
 -- ---- the loop that writes v into b: one turn, and the end
 
