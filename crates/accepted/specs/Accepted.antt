@@ -10,8 +10,8 @@ use lib.IntN.{ℤ, pos, negsuc}
 use lib.ListN.{length}
 use lib.Signed.{leZ}
 use mir.Facts.{and-yes, yes-and, leb-yes, yes-leb}
-use Rattle.adaptive.specs.Adaptive.{parity-ok, first, second, erased}
-use Rattle.adaptive.specs.Laws.{second-range, erased-range}
+use Rattle.pitch.specs.Pitch.{parity-ok, first, second, erased}
+use Rattle.pitch.specs.Laws.{second-range, erased-range}
 use Rattle.plc.specs.declared.Decision.{Decision}
 use Rattle.plc.specs.declared.Decision.the-variants.{Voice, Concealment}
 use Rattle.plc.specs.Kinds.{decide}

@@ -12,8 +12,8 @@ use Rattle.bitstream.specs.declared.SpeechParams.{SpeechParams}
 use Rattle.bitstream.specs.Fields.{unpack}
 use Rattle.lsp.specs.Lsp.{new-row, decode-lsf, interpolate}
 use Rattle.lpc.specs.Lpc.{lsp-to-lp}
-use Rattle.adaptive.specs.declared.Delay.{Delay}
-use Rattle.adaptive.specs.Adaptive as adaptive
+use Rattle.pitch.specs.declared.Delay.{Delay}
+use Rattle.pitch.specs.Pitch as pitch
 use Rattle.gain.specs.Gain as gain
 use Rattle.plc.specs.Kinds.{decide}
 use Rattle.state.specs.declared.Params.{Params}
@@ -49,7 +49,7 @@ at-start p q = record { old = none; beta = none; mem0 = none; mem1 = none; mem =
 
 -- ---- one voice frame after n frames
 
-module _ (t : List ℤ) (f : SpeechParams) {n : ℕ} {p q : Params} (h : Agree n p q) (first : n ≡ 0 → T (adaptive.parity-ok (f .p1) (f .p0))) where
+module _ (t : List ℤ) (f : SpeechParams) {n : ℕ} {p q : Params} (h : Agree n p q) (first : n ≡ 0 → T (pitch.parity-ok (f .p1) (f .p0))) where
   v : Decoded
   v = voice t f p
 
@@ -61,13 +61,13 @@ module _ (t : List ℤ) (f : SpeechParams) {n : ℕ} {p q : Params} (h : Agree n
   passing false x = absurd x
 
   -- the first delay is the carried one only if parity fails
-  tracked : adaptive.first (p .pitch .old) (f .p1) (adaptive.parity-ok (f .p1) (f .p0)) ≡ adaptive.first (q .pitch .old) (f .p1) (adaptive.parity-ok (f .p1) (f .p0))
-  unfolding adaptive.first
+  tracked : pitch.first (p .pitch .old) (f .p1) (pitch.parity-ok (f .p1) (f .p0)) ≡ pitch.first (q .pitch .old) (f .p1) (pitch.parity-ok (f .p1) (f .p0))
+  unfolding pitch.first
   tracked = go n refl
     where
-      go : (k : ℕ) → n ≡ k → adaptive.first (p .pitch .old) (f .p1) (adaptive.parity-ok (f .p1) (f .p0)) ≡ adaptive.first (q .pitch .old) (f .p1) (adaptive.parity-ok (f .p1) (f .p0))
-      go zero e = rw (passing (adaptive.parity-ok (f .p1) (f .p0)) (first e))
-      go (suc k) e = ap (λ (d : ℤ). adaptive.first d (f .p1) (adaptive.parity-ok (f .p1) (f .p0))) (h .old (omega arith))
+      go : (k : ℕ) → n ≡ k → pitch.first (p .pitch .old) (f .p1) (pitch.parity-ok (f .p1) (f .p0)) ≡ pitch.first (q .pitch .old) (f .p1) (pitch.parity-ok (f .p1) (f .p0))
+      go zero e = rw (passing (pitch.parity-ok (f .p1) (f .p0)) (first e))
+      go (suc k) e = ap (λ (d : ℤ). pitch.first d (f .p1) (pitch.parity-ok (f .p1) (f .p0))) (h .old (omega arith))
 
   same-delays : (v .first .delay ≡ w .first .delay) × (v .second .delay ≡ w .second .delay)
   unfolding v w voice subframe
@@ -115,7 +115,7 @@ module _ (t : List ℤ) (f : SpeechParams) {n : ℕ} {p q : Params} (h : Agree n
       )
 
   one-more : Agree (suc n) (v .params) (w .params)
-  unfolding v w voice subframe gain.decode gain.push adaptive.second
+  unfolding v w voice subframe gain.decode gain.push pitch.second
   one-more =
       record {
         old = λ l. ap (λ (d : Delay). d .integer) (same-delays .1);
@@ -143,7 +143,7 @@ module _ (n : ℕ) (c : Call) (k : c .kind ≡ 0) (a b : State) (h : Agree n (a 
   f : SpeechParams
   f = unpack (c .payload)
 
-  parity : n ≡ 0 → T (adaptive.parity-ok (f .p1) (f .p0))
+  parity : n ≡ 0 → T (pitch.parity-ok (f .p1) (f .p0))
   unfolding f values-of
   parity e = first e
 

@@ -5,8 +5,8 @@ use mathlib.Core.List.{List}
 use lib.Dec.{T}
 use lib.IntN.{ℤ}
 use Rattle.bitstream.specs.declared.SpeechParams.{SpeechParams}
-use Rattle.adaptive.specs.Adaptive.{first, second}
-use Rattle.adaptive.specs.Laws.{t1-fraction-range, t2-integer-range, t2-fraction-range, first-range}
+use Rattle.pitch.specs.Pitch.{first, second}
+use Rattle.pitch.specs.Laws.{t1-fraction-range, t2-integer-range, t2-fraction-range, first-range}
 use Rattle.state.specs.declared.Params.{Params}
 use Rattle.state.specs.State.{delay-in-range, accepted}
 use Rattle.parameters.specs.Parameters.{subframe, voice}

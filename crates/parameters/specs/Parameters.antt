@@ -7,8 +7,8 @@ use Rattle.tables.specs.Layout.{scalar}
 use Rattle.bitstream.specs.declared.SpeechParams.{SpeechParams}
 use Rattle.lsp.specs.Lsp.{new-row, decode-lsf, erased-row, lsf-to-lsp, interpolate}
 use Rattle.lpc.specs.Lpc.{lsp-to-lp}
-use Rattle.adaptive.specs.declared.Delay.{Delay}
-use Rattle.adaptive.specs.Adaptive as adaptive
+use Rattle.pitch.specs.declared.Delay.{Delay}
+use Rattle.pitch.specs.Pitch as delays
 use Rattle.fixed.specs.Fixed.{random-index, codevector, sharpen}
 use Rattle.gain.specs.declared.GainState.{GainState}
 use Rattle.gain.specs.Gain as gain
@@ -39,8 +39,8 @@ voice t f p =
     let l = new-row t (f .l1) (f .l2) (f .l3) in
     let omega = decode-lsf t (f .l0) l (past-rows p) in
     let lsp = to-lsp t omega in
-    let t1 = adaptive.first (p .pitch .old) (f .p1) (adaptive.parity-ok (f .p1) (f .p0)) in
-    let t2 = adaptive.second (f .p2) (t1 .delay .integer) in
+    let t1 = delays.first (p .pitch .old) (f .p1) (delays.parity-ok (f .p1) (f .p0)) in
+    let t2 = delays.second (f .p2) (t1 .delay .integer) in
     let code1 = sharpened t (p .beta) (f .c1) (f .s1) (t1 .delay) in
     let gain1 = gain.decode t (f .ga1) (f .gb1) code1 (p .gain) in
     let code2 = sharpened t (gain.sharpening t (gain1 .gp)) (f .c2) (f .s2) (t2 .delay) in
@@ -68,8 +68,8 @@ unfoldable pub conceal : List ℤ → Params → Decoded
 conceal t p =
     let l = erased-row t (p .predictor) (p .omega) (past-rows p) in
     let lsp = to-lsp t (p .omega) in
-    let t1 = adaptive.erased (p .pitch .old) in
-    let t2 = adaptive.erased (t1 .state .old) in
+    let t1 = delays.erased (p .pitch .old) in
+    let t2 = delays.erased (t1 .state .old) in
     let draw1 = random-index (p .seed) in
     let draw2 = random-index (draw1 .seed) in
     let code1 = sharpened t (p .beta) (draw1 .index) (draw1 .sign) (t1 .delay) in

@@ -6,8 +6,8 @@ use lib.IntN.{ℤ, pos}
 use Rattle.bitstream.specs.declared.SpeechParams.{SpeechParams}
 use Rattle.lsp.specs.Lsp.{new-row, decode-lsf, erased-row, interpolate}
 use Rattle.lpc.specs.Lpc.{lsp-to-lp}
-use Rattle.adaptive.specs.declared.PitchState.{PitchState}
-use Rattle.adaptive.specs.Adaptive as adaptive
+use Rattle.pitch.specs.declared.PitchState.{PitchState}
+use Rattle.pitch.specs.Pitch as delays
 use Rattle.fixed.specs.Fixed.{random-index}
 use Rattle.gain.specs.declared.GainState.{GainState}
 use Rattle.gain.specs.Gain as gain
@@ -39,13 +39,13 @@ concealed-spectrum t p = to-spectrum t (erased-row t (p .predictor) (p .omega) (
 
 unfoldable pub voice-delays : SpeechParams → PitchState → Delays
 voice-delays f pitch =
-    let t1 = adaptive.first (pitch .old) (f .p1) (adaptive.parity-ok (f .p1) (f .p0)) in
-    record { first = t1; second = adaptive.second (f .p2) (t1 .delay .integer) }
+    let t1 = delays.first (pitch .old) (f .p1) (delays.parity-ok (f .p1) (f .p0)) in
+    record { first = t1; second = delays.second (f .p2) (t1 .delay .integer) }
 
 unfoldable pub concealed-delays : PitchState → Delays
 concealed-delays pitch =
-    let t1 = adaptive.erased (pitch .old) in
-    record { first = t1; second = adaptive.erased (t1 .state .old) }
+    let t1 = delays.erased (pitch .old) in
+    record { first = t1; second = delays.erased (t1 .state .old) }
 
 -- ---- clauses 4.1.4, 4.1.5, 4.4.2, 4.4.3 and 4.4.4
 

@@ -2,12 +2,12 @@
 ghost use mathlib.Core.Path.{_≡_};
 ghost use Rattle.parameters.specs.Parameters.{past-rows, sharpened, subframe, voice, conceal, parameters};
 ghost use Rattle.parameters.specs.Parts.{to-spectrum, voice-spectrum, concealed-spectrum, voice-delays, concealed-delays, coded, voice-codes, draw, concealed-codes, next-params, to-decoded};
-use adaptive::Delay;
-use adaptive::PitchState;
-use adaptive::Tracked;
 use bitstream::SpeechParams;
 use fixed::Drawn;
 use gain::GainState;
+use pitch::Delay;
+use pitch::PitchState;
+use pitch::Tracked;
 use plc::Decision;
 use state::Params;
 
@@ -114,7 +114,7 @@ fn concealed_spectrum(t: &[i16], p: Params) -> Spectrum
 fn voice_delays(f: SpeechParams, pitch: PitchState) -> Delays
     ensures { λ r. ⌜ r ≡ voice-delays f pitch ⌝ }
 {
-    let ok = adaptive::parity_ok(f.p1, f.p0);
+    let ok = pitch::parity_ok(f.p1, f.p0);
     let first = pitch.first(f.p1, ok);
     let delay = first.delay;
     let second = pitch.second(f.p2, delay.integer);

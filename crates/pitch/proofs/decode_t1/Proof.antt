@@ -1,9 +1,9 @@
--- `adaptive::decode_t1` meets its contract. Assumes nothing.
+-- `pitch::decode_t1` meets its contract. Assumes nothing.
 use mathlib.Core.Path.{_∙_}
 use borrow.Author.Needs.{needs}
-use Rattle.adaptive.specs.Laws.{t1-thirds, t1-whole}
-use Rattle.adaptive.proofs.decode_t1.Statement.{statement}
-use Rattle.adaptive.proofs.decode_t1.Tie as tie
+use Rattle.pitch.specs.Laws.{t1-thirds, t1-whole}
+use Rattle.pitch.proofs.decode_t1.Statement.{statement}
+use Rattle.pitch.proofs.decode_t1.Tie as tie
 
 returns : tie.Need-returns
 returns c = c .in-thirds .ensures ∙ t1-thirds _ _ (c .before .before .if1 .taken) (c .before .third .ensures)

@@ -1,11 +1,11 @@
--- `adaptive::decode_t2` meets its contract. Assumes nothing.
+-- `pitch::decode_t2` meets its contract. Assumes nothing.
 use mathlib.Core.Path.{_∙_, ap}
 use borrow.Author.Needs.{needs}
 use mir.Facts.{toZ-ofZ}
-use Rattle.adaptive.specs.Adaptive.{t-min}
-use Rattle.adaptive.specs.Laws.{t2-thirds}
-use Rattle.adaptive.proofs.decode_t2.Statement.{statement}
-use Rattle.adaptive.proofs.decode_t2.Tie as tie
+use Rattle.pitch.specs.Pitch.{t-min}
+use Rattle.pitch.specs.Laws.{t2-thirds}
+use Rattle.pitch.proofs.decode_t2.Statement.{statement}
+use Rattle.pitch.proofs.decode_t2.Tie as tie
 
 returns : tie.Need-returns
 returns c =

@@ -1,11 +1,11 @@
--- `adaptive::PitchState::increased` meets its contract. Assumes nothing.
+-- `pitch::PitchState::increased` meets its contract. Assumes nothing.
 use mir.Syntax.{w16}
 use mir.Val.{SFits}
 use mir.Facts.{toZ-ofZ}
-use Rattle.adaptive.specs.Adaptive.{increased}
-use Rattle.adaptive.specs.Laws.{fits-more, increased-more, increased-most}
-use Rattle.adaptive.proofs.PitchState.increased.Statement.{statement}
-use Rattle.adaptive.proofs.PitchState.increased.Tie as tie
+use Rattle.pitch.specs.Pitch.{increased}
+use Rattle.pitch.specs.Laws.{fits-more, increased-more, increased-most}
+use Rattle.pitch.proofs.PitchState.increased.Statement.{statement}
+use Rattle.pitch.proofs.PitchState.increased.Tie as tie
 
 add-t3 : tie.Need-add-t3
 add-t3 c =

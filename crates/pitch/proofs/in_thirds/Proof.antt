@@ -1,10 +1,10 @@
--- `adaptive::in_thirds` meets its contract. Assumes nothing.
+-- `pitch::in_thirds` meets its contract. Assumes nothing.
 use borrow.Author.Needs.{needs}
 use mir.Syntax.{w16}
 use mir.Facts.{toZ-pos, toZ-ofZ}
-use Rattle.adaptive.specs.Laws.{fits-less}
-use Rattle.adaptive.proofs.in_thirds.Statement.{statement}
-use Rattle.adaptive.proofs.in_thirds.Tie as tie
+use Rattle.pitch.specs.Laws.{fits-less}
+use Rattle.pitch.proofs.in_thirds.Statement.{statement}
+use Rattle.pitch.proofs.in_thirds.Tie as tie
 
 sub-t5 : tie.Need-sub-t5
 sub-t5 c = rw (toZ-pos w16 (c .pre .1)) (fits-less _ (c .pre .1))

@@ -1,11 +1,11 @@
--- `adaptive::t_min` meets its contract. Assumes nothing.
+-- `pitch::t_min` meets its contract. Assumes nothing.
 use mathlib.Core.Path.{ap, _∙_}
 use native.Mathlib.Omega.{arith}
 use borrow.Author.Needs.{needs}
 use mir.Facts.{toZ-ofZ}
-use Rattle.adaptive.specs.Adaptive.{nat}
-use Rattle.adaptive.proofs.t_min.Statement.{statement}
-use Rattle.adaptive.proofs.t_min.Tie as tie
+use Rattle.pitch.specs.Pitch.{nat}
+use Rattle.pitch.proofs.t_min.Statement.{statement}
+use Rattle.pitch.proofs.t_min.Tie as tie
 
 returns : tie.Need-returns
 returns c = omega (arith, c .before .nat .ensures ∙ ap nat (toZ-ofZ (c .before .before .fits .t1)))

@@ -1,4 +1,4 @@
--- `adaptive::erased_lent` meets its contract: a walk of its MIR, by hand. The borrow is opened, the record is copied and handed to `erased`,
+-- `pitch::erased_lent` meets its contract: a walk of its MIR, by hand. The borrow is opened, the record is copied and handed to `erased`,
 -- the state that comes back is stored, the borrow is closed at it, and the delay is returned.
 -- All that the walk knows of `erased` is that it meets its contract. Assumes nothing.
 use mathlib.Core.Path.{_≡_, refl, ap}
@@ -36,23 +36,23 @@ use denote.Triple.Spec.{Meets, tripleOf}
 use denote.Triple.Table.{entered, cited}
 use denote.Triple.Walked.{says, Stays, stay-ref, walkOf, goes-ref, Walks, ends-at, walked, walk-meets}
 use denote.Triple.Clauses.{ensured, lasts}
-use Rattle.adaptive.specs.Adaptive.{erased}
-use Rattle.adaptive.specs.declared.PitchState.{PitchState}
-use Rattle.adaptive.specs.declared.Tracked.{Tracked}
-use Rattle.adaptive.proofs.PitchState as T
-use Rattle.adaptive.proofs.PitchState.Laws as T′
-use Rattle.adaptive.proofs.Delay as D
-use Rattle.adaptive.proofs.Delay.Laws as D′
-use Rattle.adaptive.proofs.Tracked as U
-use Rattle.adaptive.proofs.Tracked.Laws as U′
-use Rattle.adaptive.proofs.PitchState.erased as core
-use Rattle.adaptive.proofs.PitchState.erased.Symbol as core-def
-use Rattle.adaptive.proofs.PitchState.erased.Symbol.{name as #core}
-use Rattle.adaptive.proofs.PitchState.erased.Met as core-thm
-use Rattle.adaptive.proofs.erased_lent.Key.{name as #erased-lent}
-use Rattle.adaptive.proofs.erased_lent as lent
-use Rattle.adaptive.proofs.erased_lent.Statement as stated
-use Rattle.adaptive.proofs.erased_lent.Code as code
+use Rattle.pitch.specs.Pitch.{erased}
+use Rattle.pitch.specs.declared.PitchState.{PitchState}
+use Rattle.pitch.specs.declared.Tracked.{Tracked}
+use Rattle.pitch.proofs.PitchState as T
+use Rattle.pitch.proofs.PitchState.Laws as T′
+use Rattle.pitch.proofs.Delay as D
+use Rattle.pitch.proofs.Delay.Laws as D′
+use Rattle.pitch.proofs.Tracked as U
+use Rattle.pitch.proofs.Tracked.Laws as U′
+use Rattle.pitch.proofs.PitchState.erased as core
+use Rattle.pitch.proofs.PitchState.erased.Symbol as core-def
+use Rattle.pitch.proofs.PitchState.erased.Symbol.{name as #core}
+use Rattle.pitch.proofs.PitchState.erased.Met as core-thm
+use Rattle.pitch.proofs.erased_lent.Key.{name as #erased-lent}
+use Rattle.pitch.proofs.erased_lent as lent
+use Rattle.pitch.proofs.erased_lent.Statement as stated
+use Rattle.pitch.proofs.erased_lent.Code as code
 
 abbrev stayed : Stays (lent.ended .signature .params) (lent.ended .kept)
 stayed = (stay-ref (0 ∷ []) tt (plain (λ _. T.the-row)), tt)
@@ -136,4 +136,4 @@ erased-lent-spec 𝓤 H 𝓜 𝓖 𝓡 =
     entered 𝓤 H (tripleOf 𝓤 H (𝓖 .A) lent.signature (lent.spec 𝓤 H (𝓖 .A) (𝓜 .mem) (𝓡 .run)))
     (tables 𝓤 H 𝓜 𝓡 code.env .C) (tables 𝓤 H 𝓜 𝓡 code.env .Λ) #erased-lent code.function (code.unfolded 𝓤 H 𝓜 𝓡)
     (lent-meets 𝓤 H (𝓖 .A) (givenOf 𝓤 H 𝓜 𝓖) (𝓜 .mem) (𝓡 .run) (tablesOf 𝓤 H 𝓜 (tables 𝓤 H 𝓜 𝓡 code.env))
-    (cited 𝓤 H (Core 𝓤 H (𝓖 .A) (𝓜 .mem) (𝓡 .run)) 𝓜 𝓡 code.env #core core-def.routine code.calls-adaptive·PitchState·erased (core-thm.met 𝓤 H 𝓜 𝓖 𝓡)))
+    (cited 𝓤 H (Core 𝓤 H (𝓖 .A) (𝓜 .mem) (𝓡 .run)) 𝓜 𝓡 code.env #core core-def.routine code.calls-pitch·PitchState·erased (core-thm.met 𝓤 H 𝓜 𝓖 𝓡)))

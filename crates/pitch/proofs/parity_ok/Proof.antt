@@ -1,13 +1,13 @@
--- `adaptive::parity_ok` meets its contract: a sum is odd as the sum of its remainders by 2 is. Assumes nothing.
+-- `pitch::parity_ok` meets its contract: a sum is odd as the sum of its remainders by 2 is. Assumes nothing.
 use mathlib.Core.Path.{refl, ap}
 use Prim.Native.Nat.{ℕ, _%_}
 use lib.Dec.{eqb}
 use borrow.Author.Needs.{needs}
 use Rattle.laws.specs.Loops.{steps}
-use Rattle.adaptive.specs.Adaptive.{parity-ok}
-use Rattle.adaptive.specs.Laws.{odd-sum}
-use Rattle.adaptive.proofs.parity_ok.Statement.{statement}
-use Rattle.adaptive.proofs.parity_ok.Tie as tie
+use Rattle.pitch.specs.Pitch.{parity-ok}
+use Rattle.pitch.specs.Laws.{odd-sum}
+use Rattle.pitch.proofs.parity_ok.Statement.{statement}
+use Rattle.pitch.proofs.parity_ok.Tie as tie
 
 returns : tie.Need-returns
 unfolding parity-ok steps

@@ -1,8 +1,8 @@
--- `adaptive::PitchState::first` meets its contract. Assumes nothing.
+-- `pitch::PitchState::first` meets its contract. Assumes nothing.
 use borrow.Author.Needs.{needs}
-use Rattle.adaptive.specs.Adaptive.{first}
-use Rattle.adaptive.proofs.PitchState.first.Statement.{statement}
-use Rattle.adaptive.proofs.PitchState.first.Tie as tie
+use Rattle.pitch.specs.Pitch.{first}
+use Rattle.pitch.proofs.PitchState.first.Statement.{statement}
+use Rattle.pitch.proofs.PitchState.first.Tie as tie
 
 returns : tie.Need-returns
 unfolding first

@@ -1,9 +1,9 @@
--- `adaptive::PitchState::second` meets its contract. Assumes nothing.
+-- `pitch::PitchState::second` meets its contract. Assumes nothing.
 use borrow.Author.Needs.{needs}
 use mir.Facts.{toZ-ofZ}
-use Rattle.adaptive.specs.Adaptive.{second}
-use Rattle.adaptive.proofs.PitchState.second.Statement.{statement}
-use Rattle.adaptive.proofs.PitchState.second.Tie as tie
+use Rattle.pitch.specs.Pitch.{second}
+use Rattle.pitch.proofs.PitchState.second.Statement.{statement}
+use Rattle.pitch.proofs.PitchState.second.Tie as tie
 
 returns : tie.Need-returns
 unfolding second

@@ -4,7 +4,7 @@ use mathlib.Core.Bool.{true}
 use lib.IntN.{pos, negsuc}
 use Rattle.laws.specs.Loops.{steps}
 use Rattle.basic_op.specs.Ops.{lesser}
-use Rattle.adaptive.specs.Adaptive.{nat, parity-ok, decode-t1, decode-t2, increased, erased}
+use Rattle.pitch.specs.Pitch.{nat, parity-ok, decode-t1, decode-t2, increased, erased}
 
 pub p1-0 : decode-t1 0 ≡ record { integer = pos 19; fraction = pos 1 }
 unfolding decode-t1

@@ -1,11 +1,11 @@
--- `adaptive::nat` meets its contract. Assumes nothing.
+-- `pitch::nat` meets its contract. Assumes nothing.
 use mir.Syntax.{w16}
 use mir.Facts.{toZ-ofZ, fits-natAbs}
 use Rattle.laws.specs.Range.{abs-part}
 use Rattle.laws.specs.Back.{keep, nonneg-of}
-use Rattle.adaptive.specs.Laws.{nat-neg, nat-abs}
-use Rattle.adaptive.proofs.nat.Statement.{statement}
-use Rattle.adaptive.proofs.nat.Tie as tie
+use Rattle.pitch.specs.Laws.{nat-neg, nat-abs}
+use Rattle.pitch.proofs.nat.Statement.{statement}
+use Rattle.pitch.proofs.nat.Tie as tie
 
 returns : tie.Need-returns
 returns c = nat-neg (toZ-ofZ (c .before .fits .z)) (c .if1 .taken)

@@ -1,8 +1,8 @@
--- `adaptive::PitchState::erased` meets its contract. Assumes nothing.
+-- `pitch::PitchState::erased` meets its contract. Assumes nothing.
 use borrow.Author.Needs.{needs}
-use Rattle.adaptive.specs.Adaptive.{erased}
-use Rattle.adaptive.proofs.PitchState.erased.Statement.{statement}
-use Rattle.adaptive.proofs.PitchState.erased.Tie as tie
+use Rattle.pitch.specs.Pitch.{erased}
+use Rattle.pitch.proofs.PitchState.erased.Statement.{statement}
+use Rattle.pitch.proofs.PitchState.erased.Tie as tie
 
 returns : tie.Need-returns
 unfolding erased
