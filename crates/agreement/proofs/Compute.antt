@@ -16,7 +16,8 @@ use Rattle.gain.specs.Gain as gain
 use Rattle.kind.specs.Kind as kind
 use Rattle.plc.specs.Kinds as plc
 use Rattle.state.specs.State as state
-use Rattle.parameters.specs.Parameters as parameters
+use Rattle.parameters.specs.Parameters.{sharpened}
+use Rattle.parameters.specs.Parts.{Parts}
 use Rattle.decoder.specs.Frame as decoder
 use Rattle.decoder.specs.Call as call
 use Rattle.agreement.specs.Run as runs
@@ -30,5 +31,5 @@ unfolding Operators tables.row tables.log2 tables.scalar tables.table-check form
 Stages = Unit {0}
 
 unfoldable pub Run : Type 0
-unfolding Stages kind.payload-length plc.decide state.part state.read-params state.read-signal state.read state.delay-in-range state.predictor-in-range state.accepted state.state-check state.accepted-state parameters.sharpened parameters.subframe parameters.voice parameters.parameters decoder.decode call.input-check runs.code runs.frame-of runs.values-of runs.run
+unfolding Stages kind.payload-length plc.decide state.part state.read-params state.read-signal state.read state.delay-in-range state.predictor-in-range state.accepted state.state-check state.accepted-state sharpened Parts decoder.decode call.input-check runs.code runs.frame-of runs.values-of runs.run
 Run = Unit {0}

@@ -9,6 +9,7 @@ use Rattle.basic_op.specs.Ops.{lesser}
 use Rattle.pitch.specs.declared.Delay.{Delay}
 use Rattle.pitch.specs.declared.PitchState.{PitchState}
 use Rattle.pitch.specs.declared.Tracked.{Tracked}
+use Rattle.pitch.specs.declared.Delays.{Delays}
 
 -- z, or 0 where it is negative
 unfoldable pub nat : ℤ → ℕ
@@ -66,3 +67,19 @@ second p2 t1 = track (decode-t2 p2 t1)
 -- Clause 4.4.4: a subframe of an erased frame uses the carried delay, which then grows by one, to 143 at most (so 144 falls to 143).
 unfoldable pub erased : ℤ → Tracked
 erased old = record { delay = carried old; state = increased old }
+
+-- ---- both subframes of a frame
+
+-- Clauses 4.1.2 and 4.1.3: a frame that was received.
+unfoldable pub voice-delays : ℤ → (p1 p0 p2 : ℕ) → Delays
+voice-delays old p1 p0 p2 =
+    let t1 = first old p1 (parity-ok p1 p0) in
+    let t2 = second p2 (t1 .delay .integer) in
+    record { first = t1 .delay; second = t2 .delay; state = t2 .state }
+
+-- Clause 4.4.4: one that was not.
+unfoldable pub concealed-delays : ℤ → Delays
+concealed-delays old =
+    let t1 = erased old in
+    let t2 = erased (t1 .state .old) in
+    record { first = t1 .delay; second = t2 .delay; state = t2 .state }

@@ -2,7 +2,7 @@
 // erased subframe (clause 4.4.4).
 ghost use mathlib.Core.Path.{_≡_};
 ghost use Prim.Native.Nat.{_/_, _<_};
-ghost use Rattle.pitch.specs.Pitch.{parity-ok, decode-t1, decode-t2, nat, t-min, track, carried, increased, first, second, erased};
+ghost use Rattle.pitch.specs.Pitch.{parity-ok, decode-t1, decode-t2, nat, t-min, track, carried, increased, first, second, erased, voice-delays, concealed-delays};
 ghost use Rattle.pitch.specs.Laws.{in-thirds};
 
 // A pitch delay: an integer and thirds.
@@ -19,6 +19,13 @@ pub struct PitchState {
 // The delay that a subframe uses, and the state it leaves.
 pub struct Tracked {
     pub delay: Delay,
+    pub state: PitchState,
+}
+
+// The delays of a frame's two subframes, and the state it leaves.
+pub struct Delays {
+    pub first: Delay,
+    pub second: Delay,
     pub state: PitchState,
 }
 
@@ -158,4 +165,37 @@ pub fn erased_lent(s: &mut PitchState) -> Delay
     let next = (*s).erased();
     *s = next.state;
     next.delay
+}
+
+// Clauses 4.1.2 and 4.1.3: both subframes of a received frame.
+pub fn voice_delays(s: PitchState, p1: u16, p0: u16, p2: u16) -> Delays
+    ensures { λ r. ⌜ r ≡ voice-delays (s .old) p1 p0 p2 ⌝ }
+{
+    let t1 = s.first(p1, parity_ok(p1, p0));
+    let first = t1.delay;
+    let t2 = s.second(p2, first.integer);
+    let second = t2.delay;
+    let state = t2.state;
+    Delays {
+        first,
+        second,
+        state,
+    }
+}
+
+// Clause 4.4.4: both subframes of an erased frame.
+pub fn concealed_delays(s: PitchState) -> Delays
+    ensures { λ r. ⌜ r ≡ concealed-delays (s .old) ⌝ }
+{
+    let t1 = s.erased();
+    let first = t1.delay;
+    let between = t1.state;
+    let t2 = between.erased();
+    let second = t2.delay;
+    let state = t2.state;
+    Delays {
+        first,
+        second,
+        state,
+    }
 }
