@@ -187,12 +187,9 @@ pub fn voice_delays(s: PitchState, p1: u16, p0: u16, p2: u16) -> Delays
 pub fn concealed_delays(s: PitchState) -> Delays
     ensures { λ r. ⌜ r ≡ concealed-delays (s .old) ⌝ }
 {
-    let t1 = s.erased();
-    let first = t1.delay;
-    let between = t1.state;
-    let t2 = between.erased();
-    let second = t2.delay;
-    let state = t2.state;
+    let mut state = s;
+    let first = erased_lent(&mut state);
+    let second = erased_lent(&mut state);
     Delays {
         first,
         second,
