@@ -10,15 +10,16 @@ use lib.Ieee.Bits.{is-true}
 use lib.IntN.{ℤ, pos, negsuc}
 use lib.Signed.{leZ}
 use mir.Facts.{and-yes, yes-and, leb-yes, yes-leb}
-use Rattle.adaptive.specs.Adaptive.{parity-ok, first, second, erased}
-use Rattle.adaptive.specs.Laws.{second-range, erased-range}
+use Rattle.pitch.specs.Pitch.{parity-ok, first, second, erased}
+use Rattle.pitch.specs.Laws.{second-range, erased-range}
 use Rattle.plc.specs.declared.Decision.{Decision}
 use Rattle.plc.specs.declared.Decision.the-variants.{Voice, Concealment}
 use Rattle.plc.specs.Kinds.{decide}
 use Rattle.state.specs.declared.Params.{Params}
 use Rattle.state.specs.State.{State, read-params, read, write, delay-in-range, predictor-in-range, accepted, state-check}
 use Rattle.state.specs.Laws.{read-sized, accepted-write, accepted-of-check, check-of-accepted, accepted-parts}
-use Rattle.parameters.specs.Parameters.{voice, conceal, parameters}
+use Rattle.parameters.specs.Parameters.{parameters}
+use Rattle.parameters.specs.Parts.{Parts}
 use Rattle.decoder.specs.Frame.{decode}
 use Rattle.decoder.specs.Call.{number, block, frame}
 use Rattle.decoder.specs.Laws.{frame-done, frame-refused}
@@ -50,7 +51,7 @@ module _ (p : Params) (ok : T (accepted p)) where
   carried-delay = and-yes (predictor-in-range (p .predictor)) (delay-in-range (p .pitch .old)) ok .1
 
   pub accepted-after-frame : (t : List ℤ) (d : Decision) → T (accepted (parameters t d p .params))
-  unfolding accepted parameters voice conceal delay-in-range
+  unfolding accepted Parts delay-in-range
   accepted-after-frame t (Voice f) =
       let t1 = first (p .pitch .old) (f .p1) (parity-ok (f .p1) (f .p0)) .delay .integer in
       yes-and (predictor-in-range (pos (f .l0 % 2))) (delay-in-range (second (f .p2) t1 .state .old))

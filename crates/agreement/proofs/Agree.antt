@@ -12,14 +12,15 @@ use Rattle.bitstream.specs.declared.SpeechParams.{SpeechParams}
 use Rattle.bitstream.specs.Fields.{unpack}
 use Rattle.lsp.specs.Lsp.{new-row, decode-lsf, interpolate}
 use Rattle.lpc.specs.Lpc.{lsp-to-lp}
-use Rattle.adaptive.specs.declared.Delay.{Delay}
-use Rattle.adaptive.specs.Adaptive as adaptive
+use Rattle.pitch.specs.declared.Delay.{Delay}
+use Rattle.pitch.specs.Pitch as pitch
 use Rattle.gain.specs.Gain as gain
 use Rattle.plc.specs.Kinds.{decide}
 use Rattle.state.specs.declared.Params.{Params}
 use Rattle.state.specs.State.{Signal, State, read, accepted}
 use Rattle.parameters.specs.declared.Decoded.{Decoded}
-use Rattle.parameters.specs.Parameters.{to-lsp, subframe, voice, parameters}
+use Rattle.parameters.specs.Parameters.{to-lsp, voice, parameters}
+use Rattle.parameters.specs.Parts.{Parts}
 use Rattle.decoder.specs.Frame.{Buffers, frame-signal, decode}
 use Rattle.agreement.specs.Demand.{Call, FrameValues, delays, pitch-gains, fixed-gains, frequencies, filters, signal-before, samples, All, VoiceWith, PassesParity, DelaysInRange, Alike, Agreement}
 use Rattle.accepted.specs.Accepted.{accepted-after-frame}
@@ -49,7 +50,7 @@ at-start p q = record { old = none; beta = none; mem0 = none; mem1 = none; mem =
 
 -- ---- one voice frame after n frames
 
-module _ (t : List ℤ) (f : SpeechParams) {n : ℕ} {p q : Params} (h : Agree n p q) (first : n ≡ 0 → T (adaptive.parity-ok (f .p1) (f .p0))) where
+module _ (t : List ℤ) (f : SpeechParams) {n : ℕ} {p q : Params} (h : Agree n p q) (first : n ≡ 0 → T (pitch.parity-ok (f .p1) (f .p0))) where
   v : Decoded
   v = voice t f p
 
@@ -57,32 +58,32 @@ module _ (t : List ℤ) (f : SpeechParams) {n : ℕ} {p q : Params} (h : Agree n
   w = voice t f q
 
   -- the first delay is the carried one only if parity fails
-  tracked : adaptive.first (p .pitch .old) (f .p1) (adaptive.parity-ok (f .p1) (f .p0)) ≡ adaptive.first (q .pitch .old) (f .p1) (adaptive.parity-ok (f .p1) (f .p0))
-  unfolding adaptive.first
+  tracked : pitch.first (p .pitch .old) (f .p1) (pitch.parity-ok (f .p1) (f .p0)) ≡ pitch.first (q .pitch .old) (f .p1) (pitch.parity-ok (f .p1) (f .p0))
+  unfolding pitch.first
   tracked = go n refl
     where
-      go : (k : ℕ) → n ≡ k → adaptive.first (p .pitch .old) (f .p1) (adaptive.parity-ok (f .p1) (f .p0)) ≡ adaptive.first (q .pitch .old) (f .p1) (adaptive.parity-ok (f .p1) (f .p0))
-      go zero e = rw (is-true (adaptive.parity-ok (f .p1) (f .p0)) (first e))
-      go (suc k) e = ap (λ (d : ℤ). adaptive.first d (f .p1) (adaptive.parity-ok (f .p1) (f .p0))) (h .old (omega arith))
+      go : (k : ℕ) → n ≡ k → pitch.first (p .pitch .old) (f .p1) (pitch.parity-ok (f .p1) (f .p0)) ≡ pitch.first (q .pitch .old) (f .p1) (pitch.parity-ok (f .p1) (f .p0))
+      go zero e = rw (is-true (pitch.parity-ok (f .p1) (f .p0)) (first e))
+      go (suc k) e = ap (λ (d : ℤ). pitch.first d (f .p1) (pitch.parity-ok (f .p1) (f .p0))) (h .old (omega arith))
 
   same-delays : (v .first .delay ≡ w .first .delay) × (v .second .delay ≡ w .second .delay)
-  unfolding v w voice subframe
+  unfolding v w Parts
   same-delays = let e = tracked in (cc, cc)
 
   same-pitch : (v .first .gp ≡ w .first .gp) × (v .second .gp ≡ w .second .gp)
-  unfolding v w voice subframe gain.decode
+  unfolding v w Parts gain.decode
   same-pitch = (refl, refl)
 
   same-codes : 1 ≤ n → (v .first .code ≡ w .first .code) × (v .second .code ≡ w .second .code)
-  unfolding v w voice subframe gain.decode
+  unfolding v w Parts gain.decode
   same-codes l = let e = tracked in let b = h .beta l in (cc, cc)
 
   same-fixed : 2 ≤ n → (v .first .gc ≡ w .first .gc) × (v .second .gc ≡ w .second .gc)
-  unfolding v w voice subframe gain.decode
+  unfolding v w Parts gain.decode
   same-fixed l = let e = tracked in let b = h .beta (omega arith) in let m = h .mem l in (cc, cc)
 
   same-lsf : 4 ≤ n → v .params .omega ≡ w .params .omega
-  unfolding v w voice
+  unfolding v w Parts
   same-lsf l =
       let e0 = h .r0 (omega arith) in
       let e1 = h .r1 (omega arith) in
@@ -91,7 +92,7 @@ module _ (t : List ℤ) (f : SpeechParams) {n : ℕ} {p q : Params} (h : Agree n
       λ i. decode-lsf t (f .l0) (new-row t (f .l1) (f .l2) (f .l3)) (e0 i ∷ e1 i ∷ e2 i ∷ e3 i ∷ [])
 
   same-filters : 5 ≤ n → (v .first .a ≡ w .first .a) × (v .second .a ≡ w .second .a)
-  unfolding v w voice subframe
+  unfolding v w Parts
   same-filters l =
       let e : v .params .omega ≡ w .params .omega = same-lsf (omega arith) in
       let b = h .lsp l in
@@ -99,7 +100,7 @@ module _ (t : List ℤ) (f : SpeechParams) {n : ℕ} {p q : Params} (h : Agree n
 
   -- all that the signal is made from
   same-subframes : 5 ≤ n → (v .first ≡ w .first) × (v .second ≡ w .second)
-  unfolding v w voice subframe
+  unfolding v w Parts
   same-subframes l =
       let d = same-delays in
       let g = same-pitch in
@@ -111,7 +112,7 @@ module _ (t : List ℤ) (f : SpeechParams) {n : ℕ} {p q : Params} (h : Agree n
       )
 
   one-more : Agree (suc n) (v .params) (w .params)
-  unfolding v w voice subframe gain.decode gain.push adaptive.second
+  unfolding v w Parts gain.decode gain.push pitch.second
   one-more =
       record {
         old = λ l. ap (λ (d : Delay). d .integer) (same-delays .1);
@@ -139,7 +140,7 @@ module _ (n : ℕ) (c : Call) (k : c .kind ≡ 0) (a b : State) (h : Agree n (a 
   f : SpeechParams
   f = unpack (c .payload)
 
-  parity : n ≡ 0 → T (adaptive.parity-ok (f .p1) (f .p0))
+  parity : n ≡ 0 → T (pitch.parity-ok (f .p1) (f .p0))
   unfolding f values-of
   parity e = first e
 

@@ -12,8 +12,8 @@ use lib.ListN.{length, drop, take, replicate}
 use lib.Signed.{leZ}
 use Rattle.tables.specs.Layout.{accepted-tables}
 use Rattle.bitstream.specs.Fields.{unpack}
-use Rattle.adaptive.specs.declared.Delay.{Delay}
-use Rattle.adaptive.specs.Adaptive.{parity-ok}
+use Rattle.pitch.specs.declared.Delay.{Delay}
+use Rattle.pitch.specs.Pitch.{parity-ok}
 use Rattle.plc.specs.Kinds.{decide}
 use Rattle.state.specs.State.{Signal, read, read-signal, delay-in-range, accepted-state}
 use Rattle.parameters.specs.declared.Decoded.{Decoded}

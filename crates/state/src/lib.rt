@@ -9,8 +9,8 @@ ghost use lib.IntN.{pos};
 ghost use lib.ListN.{length, take, drop, replicate};
 ghost use Rattle.laws.specs.Lists.{at, filled};
 ghost use Rattle.state.specs.State.{part, read-params, write-params, write, fresh-params, fresh, delay-in-range, predictor-in-range, state-check, Answer, fresh-state};
-use adaptive::PitchState;
 use gain::GainState;
+use pitch::PitchState;
 
 // Words 0 to 69 (G.729 clauses 3.2.4, 3.2.5, 3.9.1 and 4.4).
 pub struct Params {
