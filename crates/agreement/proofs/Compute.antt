@@ -27,9 +27,9 @@ unfolding tab loops.steps loops.run op.sat op.add op.sub op.mult op.l-mult op.l-
 Operators = Unit {0}
 
 unfoldable pub Stages : Type 0
-unfolding Operators tables.row tables.log2 tables.scalar tables.table-check formula.lsp-cosine formula.lsp-cosine-slope formula.pow2 formula.gain-prediction-coefficients bitstream.number bitstream.bits bitstream.widths bitstream.sum bitstream.cut bitstream.fields bitstream.unpack lsp.codebook-sum lsp.spread-pair lsp.enforce-spacing lsp.new-row lsp-ma.add-past lsp-ma.ma-prediction sort.insert sort.sort lsp.keep-distance lsp.order-and-bound lsp.decode-lsf lsp.cosine lsp.lsf-to-lsp lsp.interpolate lpc.step lpc.top lpc.older lpc.next-stage lpc.polynomial lpc.f1-prime lpc.f2-prime lpc.half-q12 lpc.coefficient lpc.lsp-to-lp pitch.nat pitch.parity-ok pitch.decode-t1 pitch.decode-t2 pitch.first pitch.second fixed.position fixed.pulse fixed.codevector fixed.sharpen gain.sharpening gain.energy gain.mean-and-energy gain.prediction gain.log2-gain gain.predict gain.row-ga gain.row-gb gain.pitch-gain gain.gamma gain.fixed-gain gain.gain-error gain.push gain.decode
+unfolding Operators state.part tables.log2 tables.scalar tables.table-check formula.lsp-cosine formula.lsp-cosine-slope formula.pow2 formula.gain-prediction-coefficients bitstream.number bitstream.bits bitstream.widths bitstream.sum bitstream.cut bitstream.fields bitstream.unpack lsp.codebook-sum lsp.spread-pair lsp.enforce-spacing lsp.new-row lsp-ma.add-past lsp-ma.ma-prediction sort.insert sort.sort lsp.keep-distance lsp.order-and-bound lsp.decode-lsf lsp.cosine lsp.lsf-to-lsp lsp.interpolate lpc.step lpc.top lpc.older lpc.next-stage lpc.polynomial lpc.f1-prime lpc.f2-prime lpc.half-q12 lpc.coefficient lpc.lsp-to-lp pitch.nat pitch.parity-ok pitch.decode-t1 pitch.decode-t2 pitch.first pitch.second fixed.position fixed.pulse fixed.codevector fixed.sharpen gain.sharpening gain.energy gain.mean-and-energy gain.prediction gain.log2-gain gain.predict gain.row-ga gain.row-gb gain.pitch-gain gain.gamma gain.fixed-gain gain.gain-error gain.push gain.decode
 Stages = Unit {0}
 
 unfoldable pub Run : Type 0
-unfolding Stages kind.payload-length plc.decide state.part state.read-params state.read-signal state.read state.delay-in-range state.predictor-in-range state.accepted state.state-check state.accepted-state sharpened Parts decoder.decode call.first-of call.input-check runs.code runs.taken runs.frame-of runs.values-of runs.run
+unfolding Stages kind.payload-length plc.decide state.read-params state.read-signal state.read state.delay-in-range state.predictor-in-range state.accepted state.state-check state.accepted-state sharpened Parts decoder.decode call.first-of call.input-check runs.code runs.taken runs.frame-of runs.values-of runs.run
 Run = Unit {0}

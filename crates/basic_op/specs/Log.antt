@@ -13,6 +13,7 @@ use mir.Syntax.{w16}
 use mir.Val.{SFits}
 use Rattle.laws.specs.Lists.{at, at-tab}
 use Rattle.laws.specs.Range.{mag-sub}
+use Rattle.block.specs.Block.{part}
 use Rattle.tables.specs.Layout.{log2}
 use Rattle.basic_op.specs.Ops.{l-shl, by-sign, norm-l}
 use Rattle.basic_op.specs.Laws.{sat-id}
@@ -60,5 +61,5 @@ fits-less k h = record { sfits = lt-of-lt-of-le (mag-sub (pos 30) (pos k) 31 31 
 
 -- entry k of the logarithm's table is word 1823 + k of the block
 pub log2-word : (t : List ℤ) (k n : ℕ) → k < 33 → 1823 + k ≡ n → at t n ≡ at (log2 t) k
-unfolding log2
+unfolding log2 part
 log2-word t k n h e = rw (← e) (sym (at-tab (λ (j : ℕ). at t (1823 + j)) 33 k h))

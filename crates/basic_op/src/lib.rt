@@ -396,8 +396,8 @@ fn log_fraction(t: &[i16], m: u32) -> i16
 {
     let segment = (m / 33554432) as usize;
     let weight = (m / 1024 % 32768) as i16;
-    let entry = tables::word(t, 1791 + segment);
-    let next = tables::word(t, 1792 + segment);
+    let entry = block::word(t, 1791 + segment);
+    let next = block::word(t, 1792 + segment);
     extract_h(interpolate_q15(entry, next, weight))
 }
 

@@ -5,9 +5,9 @@ ghost use lib.ListN.{length, drop};
 ghost use Rattle.decoder.specs.Frame.{buffers, subframe-signal, decode};
 ghost use Rattle.decoder.specs.Call.{input-check, refusal, report, code, Answer, frame};
 ghost use Rattle.state.specs.State.{read, write};
-use adaptive::Delay;
 use parameters::Decoded;
 use parameters::Subframe;
+use pitch::Delay;
 use plc::Decision;
 
 // What a frame hands up beside its samples: the delay that each subframe used.

@@ -23,7 +23,7 @@ pub fn word(words: &[i16], from: usize, n: usize) -> i16
 pub fn number(words: &[i16], n: usize) -> u16
     ensures { λ r. ⌜ r ≡ low16 (at (now (words .entry)) n) ⌝ }
 {
-    basic_op::low16(tables::word(words, n))
+    basic_op::low16(block::word(words, n))
 }
 
 // Fills `out` with the words from a place on.

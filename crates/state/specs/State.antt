@@ -1,20 +1,19 @@
 -- The state block (01, "The table block and the state block"): 234 words, and the values that they stand for.
-use Prim.Native.Nat.{ℕ, _+_}
+use Prim.Native.Nat.{ℕ}
 use mathlib.Core.Bool.{Bool, cond, _&&_}
 use mathlib.Core.List.{List, [], _∷_, _++_}
 use lib.Dec.{eqb}
 use lib.IntN.{ℤ, pos}
 use lib.ListN.{length, replicate}
 use lib.Signed.{leZ}
-use Rattle.laws.specs.Lists.{at, tab}
+use Rattle.laws.specs.Lists.{at}
+use Rattle.block.specs.Places.{past-length, tail-length, past-place, tail-place, state-length}
 use Rattle.tables.specs.declared.Scalar.the-variants.{InitialPreviousPitchDelay}
 use Rattle.tables.specs.Layout.{initial-lsp, scalar, table-check}
+unfoldable pub use Rattle.block.specs.Block.{part}
+unfoldable pub use Rattle.tables.specs.Layout.{delay-in-range}
 use Rattle.tables.specs.Formula.{lsp-quantizer-initial-memory, gain-predictor-initial-memory}
 use Rattle.state.specs.declared.Params.{Params}
-
--- the n words of b from place `from` on
-unfoldable pub part : List ℤ → ℕ → ℕ → List ℤ
-part b from n = tab n (λ k. at b (from + k))
 
 -- words 70 to 233: the last 154 words of excitation and the last ten samples, oldest first
 pub record Signal : Type 0 where
@@ -44,15 +43,21 @@ read-params b =
     }
 
 unfoldable pub read-signal : List ℤ → Signal
-read-signal b = record { past = part b 70 154; tail = part b 224 10 }
+read-signal b = record { past = part b past-place past-length; tail = part b tail-place tail-length }
 
 unfoldable pub read : List ℤ → State
 read b = record { params = read-params b; signal = read-signal b }
 
+-- words 0 to 60: the quantizer's memory, and the LSF and LSP of the frame before
+unfoldable pub lsp-words : Params → List ℤ
+lsp-words p = p .r0 ++ (p .r1 ++ (p .r2 ++ (p .r3 ++ (p .predictor ∷ (p .omega ++ p .lsp)))))
+
+-- words 61 to 69: the delay, the seed, the gains and the sharpening factor
+unfoldable pub exc-words : Params → List ℤ
+exc-words p = p .pitch .old ∷ p .seed ∷ (p .gain .mem ++ (p .gain .gp ∷ p .gain .gc ∷ p .beta ∷ []))
+
 unfoldable pub write-params : Params → List ℤ
-write-params p =
-    p .r0 ++ (p .r1 ++ (p .r2 ++ (p .r3 ++ (p .predictor ∷ (p .omega ++ (p .lsp
-    ++ (p .pitch .old ∷ p .seed ∷ (p .gain .mem ++ (p .gain .gp ∷ p .gain .gc ∷ p .beta ∷ [])))))))))
+write-params p = lsp-words p ++ exc-words p
 
 unfoldable pub write : State → List ℤ
 write s = write-params (s .params) ++ (s .signal .past ++ s .signal .tail)
@@ -78,12 +83,9 @@ fresh-params t =
     }
 
 unfoldable pub fresh : List ℤ → State
-fresh t = record { params = fresh-params t; signal = record { past = replicate 154 (pos 0); tail = replicate 10 (pos 0) } }
+fresh t = record { params = fresh-params t; signal = record { past = replicate past-length (pos 0); tail = replicate tail-length (pos 0) } }
 
 -- ---- refusals
-
-unfoldable pub delay-in-range : ℤ → Bool
-delay-in-range d = leZ (pos 19) d && leZ d (pos 144)
 
 unfoldable pub predictor-in-range : ℤ → Bool
 predictor-in-range p = leZ (pos 0) p && leZ p (pos 1)
@@ -94,11 +96,11 @@ accepted p = predictor-in-range (p .predictor) && delay-in-range (p .pitch .old)
 
 -- 3: not 234 words. 4: predictor or delay out of range.
 unfoldable pub state-check : List ℤ → ℕ
-state-check b = cond (eqb (length b) 234) (cond (accepted (read-params b)) 0 4) 3
+state-check b = cond (eqb (length b) state-length) (cond (accepted (read-params b)) 0 4) 3
 
 -- a block to which refusals 3 and 4 don't apply
 unfoldable pub accepted-state : List ℤ → Bool
-accepted-state b = eqb (length b) 234 && accepted (read-params b)
+accepted-state b = eqb (length b) state-length && accepted (read-params b)
 
 -- ---- the operation Fresh state
 
@@ -110,5 +112,5 @@ pub data Answer : Type 0 where
 unfoldable pub fresh-state : List ℤ → List ℤ → Answer
 fresh-state t b =
     cond (eqb (table-check t) 0)
-    (cond (eqb (length b) 234) (answer 0 (write (fresh t))) (answer 3 b))
+    (cond (eqb (length b) state-length) (answer 0 (write (fresh t))) (answer 3 b))
     (answer (table-check t) b)

@@ -2,21 +2,21 @@
 -- Each definition names a part by its place in the block; a word past the end is 0. The comments say what G.729 holds there:
 -- nothing is assumed of the words.
 use mathlib.Core.Path.{_≡_}
-use mathlib.Core.Bool.{cond, _||_}
+use mathlib.Core.Bool.{Bool, cond, _&&_}
 use mathlib.Core.List.{List, [], _∷_}
-use Prim.Native.Nat.{ℕ, _+_, _*_, _≤_}
-use native.Mathlib.Omega.{arith}
+use Prim.Native.Nat.{ℕ, _+_, _*_}
 use lib.Dec.{eqb}
 use lib.IntN.{ℤ, pos}
 use lib.ListN.{length}
-use lib.Signed.{ltZ}
-use Rattle.laws.specs.Lists.{at, tab}
+use lib.Signed.{leZ}
+use Rattle.laws.specs.Lists.{at}
+use Rattle.block.specs.Block.{part}
 use Rattle.tables.specs.declared.Scalar.{Scalar}
 use Rattle.tables.specs.declared.Scalar.the-variants.{PitchSharpeningMax, InitialPreviousPitchDelay, FixedCodebookPulsePositive, GainPredictionLogScale, GainPredictionMeanEnergyMantissa, GainPredictionMeanEnergyMultiplier, GainPredictionDbToLog2, GainUpdateLog2ToDb, ErasurePitchGainLimit, ErasureFixedGainAttenuation, LsfToLspFrequencyScale, LsfStabilityLowLimit, LsfStabilityHighLimit, LsfStabilityMinDistance}
 
 -- the ten words at n
-unfoldable pub row : List ℤ → ℕ → List ℤ
-row t n = tab 10 (λ k. at t (n + k))
+abbrev pub row : List ℤ → ℕ → List ℤ
+row t n = part t n 10
 
 -- row i of the first LSF codebook L1, 128 rows, Q13 (clause 3.2.4)
 abbrev pub lsp-cb1 : List ℤ → ℕ → List ℤ
@@ -40,7 +40,7 @@ lsp-ma-sum-inv t p = row t (1700 + 10 * p)
 
 -- the interpolation filter b30 of the adaptive codebook, Q15 (clause 3.7.1, equation (40))
 unfoldable pub b30 : List ℤ → List ℤ
-b30 t = tab 31 (λ k. at t (1720 + k))
+b30 t = part t 1720 31
 
 -- word j of row i of the gain codebook GA, 8 rows of 2: the pitch gain, Q14, and the correction factor, Q13 (clause 3.9.2)
 abbrev pub gain-ga : List ℤ → ℕ → ℕ → ℤ
@@ -60,7 +60,7 @@ map-gb t i = at t (1807 + i)
 
 -- log2 (1 + k / 32), k from 0 to 32, Q15 (clause 3.9.1)
 unfoldable pub log2 : List ℤ → List ℤ
-log2 t = tab 33 (λ k. at t (1823 + k))
+log2 t = part t 1823 33
 
 -- the LSP vector of the frame before the first, Q15 (clause 3.2.5)
 abbrev pub initial-lsp : List ℤ → List ℤ
@@ -87,30 +87,14 @@ place LsfStabilityMinDistance = 13
 unfoldable pub scalar : List ℤ → Scalar → ℤ
 scalar t s = at t (1866 + place s)
 
--- ---- the table check: 1 for another length; 2 for an initial delay below 19 or above 144; 0 for an accepted block
+-- ---- the table check: 1 for another length; 2 for an initial delay out of range; 0 for an accepted block
+
+-- a delay that the excitation holds the words for (01: 19 to 144)
+unfoldable pub delay-in-range : ℤ → Bool
+delay-in-range d = leZ (pos 19) d && leZ d (pos 144)
 
 unfoldable pub table-check : List ℤ → ℕ
-table-check t =
-    let delay = scalar t InitialPreviousPitchDelay in
-    cond (eqb (length t) 1880) (cond (ltZ delay (pos 19) || ltZ (pos 144) delay) 2 0) 1
+table-check t = cond (eqb (length t) 1880) (cond (delay-in-range (scalar t InitialPreviousPitchDelay)) 0 2) 1
 
 abbrev pub accepted-tables : List ℤ → Type 0
 accepted-tables t = table-check t ≡ 0
-
--- ---- no place is past the last
-
-pub place-small : (s : Scalar) → place s ≤ 13
-place-small PitchSharpeningMax = omega arith
-place-small InitialPreviousPitchDelay = omega arith
-place-small FixedCodebookPulsePositive = omega arith
-place-small GainPredictionLogScale = omega arith
-place-small GainPredictionMeanEnergyMantissa = omega arith
-place-small GainPredictionMeanEnergyMultiplier = omega arith
-place-small GainPredictionDbToLog2 = omega arith
-place-small GainUpdateLog2ToDb = omega arith
-place-small ErasurePitchGainLimit = omega arith
-place-small ErasureFixedGainAttenuation = omega arith
-place-small LsfToLspFrequencyScale = omega arith
-place-small LsfStabilityLowLimit = omega arith
-place-small LsfStabilityHighLimit = omega arith
-place-small LsfStabilityMinDistance = omega arith

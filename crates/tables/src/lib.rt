@@ -1,10 +1,7 @@
 // The decoder's tables (clauses 3 to 4.4 of G.729). The trained ones are handed in as one block of 1,880 words, read here:
 // every reader takes any block, and a word past its end reads as 0. Those by formula are in `formula`, stated constants in `text`.
 ghost use mathlib.Core.Path.{_≡_};
-ghost use Prim.Native.Nat.{ℕ, _+_, _<_, _≤_};
-ghost use lib.ListN.{length};
-ghost use Rattle.laws.specs.Lists.{at, tab};
-ghost use Rattle.tables.specs.Layout.{row, lsp-cb1, lsp-cb2, lsp-ma, lsp-ma-sum, lsp-ma-sum-inv, b30, gain-ga, gain-gb, map-ga, map-gb, initial-lsp, place, scalar, table-check};
+ghost use Rattle.tables.specs.Layout.{lsp-cb1, lsp-cb2, lsp-ma, lsp-ma-sum, lsp-ma-sum-inv, b30, gain-ga, gain-gb, map-ga, map-gb, initial-lsp, place, scalar, delay-in-range, table-check};
 
 pub mod formula;
 pub mod text;
@@ -41,71 +38,18 @@ pub enum Scalar {
     LsfStabilityMinDistance,
 }
 
-// Word n of the block.
-pub fn word(t: &[i16], n: usize) -> i16
-    ensures { λ r. ⌜ r ≡ at (now (t .entry)) n ⌝ }
-{
-    if n < t.len() { t[n] } else { 0 }
-}
-
-// The words from n on, as many as out has, where the block has them all.
-fn copy(t: &[i16], n: usize, out: &mut [i16])
-    requires { ⌜ n + length (now out) ≤ length (now t) ⌝ }
-    ensures { λ r. ⌜ now (out .exit) ≡ tab (length (now (out .entry))) (λ k. at (now (t .entry)) (n + k)) ⌝ }
-{
-    let mut i = 0;
-    while i < out.len() {
-        out[i] = t[n + i];
-        i += 1;
-    }
-}
-
-// The same where the block may end before them.
-fn copy_short(t: &[i16], n: usize, out: &mut [i16])
-    requires { ⌜ n < 4294967296 ⌝ }
-    ensures { λ r. ⌜ now (out .exit) ≡ tab (length (now (out .entry))) (λ k. at (now (t .entry)) (n + k)) ⌝ }
-{
-    let mut i = 0;
-    while i < out.len() {
-        out[i] = word(t, n + i);
-        i += 1;
-    }
-}
-
-// The words from n on, as many as out has. The length is tested once, so that the copy of a whole block tests no word.
-fn words(t: &[i16], n: usize, out: &mut [i16])
-    requires { ⌜ n < 4294967296 ⌝ }
-    ensures { λ r. ⌜ now (out .exit) ≡ tab (length (now (out .entry))) (λ k. at (now (t .entry)) (n + k)) ⌝ }
-{
-    if n + out.len() <= t.len() {
-        copy(t, n, out);
-    } else {
-        copy_short(t, n, out);
-    }
-}
-
-// The ten words at n.
-fn row(t: &[i16], n: usize) -> [i16; 10]
-    requires { ⌜ n < 4294967296 ⌝ }
-    ensures { λ r. ⌜ r ≡ row (now (t .entry)) n ⌝ }
-{
-    let mut out = [0i16; 10];
-    words(t, n, &mut out);
-    out
-}
-
 // Row i of the first LSF codebook (clause 3.2.4).
 pub fn lsp_cb1(t: &[i16], i: u16) -> [i16; 10]
     ensures { λ r. ⌜ r ≡ lsp-cb1 (now (t .entry)) i ⌝ }
 {
-    row(t, 10 * (i as usize))
+    block::words10(t, 10 * (i as usize))
 }
 
 // Row i of the second LSF codebooks (clause 3.2.4).
 pub fn lsp_cb2(t: &[i16], i: u16) -> [i16; 10]
     ensures { λ r. ⌜ r ≡ lsp-cb2 (now (t .entry)) i ⌝ }
 {
-    row(t, 1280 + 10 * (i as usize))
+    block::words10(t, 1280 + 10 * (i as usize))
 }
 
 // The moving-average weights of predictor p (clause 3.2.4).
@@ -113,10 +57,10 @@ pub fn lsp_ma(t: &[i16], p: u16) -> [[i16; 10]; 4]
     ensures { λ r. ⌜ r ≡ lsp-ma (now (t .entry)) p ⌝ }
 {
     let n = 40 * (p as usize);
-    let a = row(t, 1600 + n);
-    let b = row(t, 1610 + n);
-    let c = row(t, 1620 + n);
-    let d = row(t, 1630 + n);
+    let a = block::words10(t, 1600 + n);
+    let b = block::words10(t, 1610 + n);
+    let c = block::words10(t, 1620 + n);
+    let d = block::words10(t, 1630 + n);
     [a, b, c, d]
 }
 
@@ -124,14 +68,14 @@ pub fn lsp_ma(t: &[i16], p: u16) -> [[i16; 10]; 4]
 pub fn lsp_ma_sum(t: &[i16], p: u16) -> [i16; 10]
     ensures { λ r. ⌜ r ≡ lsp-ma-sum (now (t .entry)) p ⌝ }
 {
-    row(t, 1680 + 10 * (p as usize))
+    block::words10(t, 1680 + 10 * (p as usize))
 }
 
 // Its inverse, for the memory of an erased frame (clause 4.4.1).
 pub fn lsp_ma_sum_inv(t: &[i16], p: u16) -> [i16; 10]
     ensures { λ r. ⌜ r ≡ lsp-ma-sum-inv (now (t .entry)) p ⌝ }
 {
-    row(t, 1700 + 10 * (p as usize))
+    block::words10(t, 1700 + 10 * (p as usize))
 }
 
 // The interpolation filter of the adaptive codebook (clause 3.7.1).
@@ -139,7 +83,7 @@ pub fn b30(t: &[i16]) -> [i16; 31]
     ensures { λ r. ⌜ r ≡ b30 (now (t .entry)) ⌝ }
 {
     let mut out = [0i16; 31];
-    words(t, 1720, &mut out);
+    block::words(t, 1720, &mut out);
     out
 }
 
@@ -147,35 +91,35 @@ pub fn b30(t: &[i16]) -> [i16; 31]
 pub fn gain_ga(t: &[i16], i: u16, j: u16) -> i16
     ensures { λ r. ⌜ r ≡ gain-ga (now (t .entry)) i j ⌝ }
 {
-    word(t, 1751 + 2 * (i as usize) + (j as usize))
+    block::word(t, 1751 + 2 * (i as usize) + (j as usize))
 }
 
 // Word j of row i of the gain codebook GB (clause 3.9.2).
 pub fn gain_gb(t: &[i16], i: u16, j: u16) -> i16
     ensures { λ r. ⌜ r ≡ gain-gb (now (t .entry)) i j ⌝ }
 {
-    word(t, 1767 + 2 * (i as usize) + (j as usize))
+    block::word(t, 1767 + 2 * (i as usize) + (j as usize))
 }
 
 // The row of GA for the transmitted index i (clause 3.9.3).
 pub fn map_ga(t: &[i16], i: u16) -> i16
     ensures { λ r. ⌜ r ≡ map-ga (now (t .entry)) i ⌝ }
 {
-    word(t, 1799 + (i as usize))
+    block::word(t, 1799 + (i as usize))
 }
 
 // The row of GB for the transmitted index i (clause 3.9.3).
 pub fn map_gb(t: &[i16], i: u16) -> i16
     ensures { λ r. ⌜ r ≡ map-gb (now (t .entry)) i ⌝ }
 {
-    word(t, 1807 + (i as usize))
+    block::word(t, 1807 + (i as usize))
 }
 
 // The LSP vector of the frame before the first (clause 3.2.5).
 pub fn initial_lsp(t: &[i16]) -> [i16; 10]
     ensures { λ r. ⌜ r ≡ initial-lsp (now (t .entry)) ⌝ }
 {
-    row(t, 1856)
+    block::words10(t, 1856)
 }
 
 // The place of a scalar among the scalars.
@@ -204,22 +148,25 @@ fn place(s: Scalar) -> usize
 pub fn scalars(t: &[i16], s: Scalar) -> i16
     ensures { λ r. ⌜ r ≡ scalar (now (t .entry)) s ⌝ }
 {
-    word(t, 1866 + place(s))
+    block::word(t, 1866 + place(s))
 }
 
-// Whether a block can be used: 0, or 1 for another length, or 2 for an initial delay below 19 or above 144.
+// Whether a delay is one that the excitation holds the words for.
+pub fn delay_in_range(delay: i16) -> bool
+    ensures { λ r. ⌜ r ≡ delay-in-range delay ⌝ }
+{
+    if 19 <= delay { delay <= 144 } else { false }
+}
+
+// Whether a block can be used: 0, or 1 for another length, or 2 for an initial delay out of range.
 pub fn table_check(t: &[i16]) -> u32
     ensures { λ r. ⌜ r ≡ table-check (now (t .entry)) ⌝ }
 {
     if t.len() != 1880 {
         return 1;
     }
-    let delay = scalars(t, Scalar::InitialPreviousPitchDelay);
-    if delay < 19 {
-        return 2;
+    if delay_in_range(scalars(t, Scalar::InitialPreviousPitchDelay)) {
+        return 0;
     }
-    if delay > 144 {
-        return 2;
-    }
-    0
+    2
 }

@@ -1,20 +1,19 @@
 -- The last form of a call (01, "The call text and the program"): the total of all its lines, or a refusal with 9 or 10 whose L is the number of line feeds before the refused line,
 -- and 1. So `line-number`, which goes by the frames, is the number of the line. Assumes nothing.
 use mathlib.Core.Path.{_≡_, refl, ap, sym, _∙_}
-use mathlib.Core.Bool.{Bool, true, false, cond, _||_}
+use mathlib.Core.Bool.{Bool, true, false, cond}
 use mathlib.Core.List.{List, [], _∷_, _++_, append-assoc, append-nil}
 use Prim.Native.Nat.{ℕ, _+_, _≤_, _<_}
 use native.Mathlib.Omega.{arith}
 use lib.Dec.{eqb}
-use lib.IntN.{ℤ, pos}
-use lib.Signed.{ltZ}
+use lib.IntN.{ℤ}
 use lib.ListN.{length, length-append}
 use lib.Seq.{append-snoc}
 use borrow.Author.Tests.{eq-eqb, ne-eqb, eqb-true, eqb-false}
 use Rattle.count.specs.declared.Counts.{Counts}
 use Rattle.print.specs.Print.{total, refused}
-use Rattle.tables.specs.Layout.{table-check, scalar}
-use Rattle.tables.specs.declared.Scalar.the-variants.{InitialPreviousPitchDelay}
+use Rattle.tables.specs.Layout.{table-check}
+use Rattle.tables.specs.Laws.{check-few}
 use Rattle.state.specs.State.{state-check}
 use Rattle.state.specs.Laws.{fresh-accepted, check-of-accepted}
 use Rattle.words.specs.Words.{words}
@@ -113,18 +112,6 @@ ending t job held (b ∷ text) ht hb z k h =
     by false q e g f r = rw (← append-snoc held b text) (r e)
 
 -- ---- the program
-
-check-few : (t : List ℤ) → table-check t ≤ 2
-unfolding table-check
-check-few t = by (eqb (length t) 1880) (ltZ delay (pos 19) || ltZ (pos 144) delay)
-  where
-    delay : ℤ
-    delay = scalar t InitialPreviousPitchDelay
-
-    by : (p q : Bool) → cond p (cond q 2 0) 1 ≤ 2
-    by true true = omega arith
-    by true false = omega arith
-    by false q = omega arith
 
 file-check-few : (file : List ℕ) → file-check file ≤ 2
 unfolding file-check

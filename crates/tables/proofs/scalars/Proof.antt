@@ -3,7 +3,8 @@ use native.Mathlib.Omega.{arith}
 use borrow.Author.Needs.{needs}
 use mir.Syntax.{w16}
 use Rattle.laws.specs.Back.{came}
-use Rattle.tables.specs.Layout.{scalar, place-small}
+use Rattle.tables.specs.Layout.{scalar}
+use Rattle.tables.specs.Laws.{place-small}
 use Rattle.tables.proofs.scalars.Statement.{statement}
 use Rattle.tables.proofs.scalars.Tie as tie
 

@@ -1,0 +1,13 @@
+-- `block::word` meets its contract: a list read past its end gives the default.
+use mathlib.Core.Path.{sym}
+use borrow.Author.Needs.{needs}
+use lib.IntN.{pos}
+use lib.ListN.{List·getD-eq-default}
+use Rattle.block.proofs.word.Statement.{statement}
+use Rattle.block.proofs.word.Tie as tie
+
+returns-2 : tie.Need-returns-2
+returns-2 c = sym (List·getD-eq-default (c .before .args .b .now) (pos 0) (c .if1 .left))
+
+pub word-spec : {M : Type 1} → statement M
+word-spec = tie.close (tie.spec (λ c. search needs) (λ c. search needs) (λ c. search needs) returns-2)
