@@ -5,6 +5,7 @@ use mathlib.Core.List.{List}
 use lib.Dec.{eqb}
 use lib.IntN.{ℤ}
 use lib.ListN.{length}
+use Rattle.block.specs.Places.{frame-length}
 use Rattle.tables.specs.Layout.{table-check}
 use Rattle.kind.specs.Kind.{known, payload-length}
 use Rattle.plc.specs.Kinds.{decide}
@@ -23,7 +24,7 @@ first-of m n = cond (eqb m 0) n m
 
 -- 5: kind above 3. 6: the payload's length isn't that of the kind. 7: not 80 words of output
 unfoldable pub input-check : ℕ → List ℕ → ℕ → ℕ
-input-check kind payload room = cond (known kind) (cond (eqb (length payload) (payload-length kind)) (cond (eqb room 80) 0 7) 6) 5
+input-check kind payload room = cond (known kind) (cond (eqb (length payload) (payload-length kind)) (cond (eqb room frame-length) 0 7) 6) 5
 
 -- the first number of 1 to 7 that applies, or 0; `room` is the length of the output
 unfoldable pub refusal : List ℤ → List ℤ → ℕ → List ℕ → ℕ → ℕ

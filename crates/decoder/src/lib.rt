@@ -1,10 +1,16 @@
 // The frame call (01, Frame; G.729 clause 4.1.6; lib.rs of the Rust, up to `reconstruct`): what is refused, and a frame's signal from its parameters.
 ghost use mathlib.Core.Path.{_≡_};
 ghost use mathlib.Core.Bool.{true, false};
-ghost use lib.ListN.{length, drop};
+ghost use lib.ListN.{drop};
+ghost use Rattle.block.specs.Places.{tail-length};
 ghost use Rattle.decoder.specs.Frame.{buffers, subframe-signal, decode};
 ghost use Rattle.decoder.specs.Call.{input-check, refusal, report, code, Answer, frame};
 ghost use Rattle.state.specs.State.{read, write};
+use block::places::EXC_LENGTH;
+use block::places::FRAME_LENGTH;
+use block::places::SPEECH_LENGTH;
+use block::places::STATE_LENGTH;
+use block::places::TAIL_LENGTH;
 use parameters::Decoded;
 use parameters::Subframe;
 use pitch::Delay;
@@ -24,8 +30,8 @@ pub enum Framed {
 
 // The state block that a frame leaves, its speech (the ten samples before it and its 80), and what it hands up.
 struct Output {
-    block: [i16; 234],
-    speech: [i16; 90],
+    block: [i16; STATE_LENGTH],
+    speech: [i16; SPEECH_LENGTH],
     report: Report,
 }
 
@@ -44,8 +50,8 @@ pub fn subframe_signal(
     t: &[i16],
     second: bool,
     v: Subframe,
-    exc: &mut [i16; 234],
-    speech: &mut [i16; 90],
+    exc: &mut [i16; EXC_LENGTH],
+    speech: &mut [i16; SPEECH_LENGTH],
 )
     ensures { λ r. ⌜ buffers (now (exc .exit)) (now (speech .exit)) ≡ subframe-signal (now (t .entry)) second v (buffers (now (exc .entry)) (now (speech .entry))) ⌝ }
 {
@@ -59,7 +65,12 @@ pub fn subframe_signal(
 }
 
 // The signal of the frame: its two subframes, one after the other.
-fn frame_signal(t: &[i16], v: Decoded, exc: &mut [i16; 234], speech: &mut [i16; 90])
+fn frame_signal(
+    t: &[i16],
+    v: Decoded,
+    exc: &mut [i16; EXC_LENGTH],
+    speech: &mut [i16; SPEECH_LENGTH],
+)
     ensures { λ r. ⌜ buffers (now (exc .exit)) (now (speech .exit)) ≡ subframe-signal (now (t .entry)) true (v .second) (subframe-signal (now (t .entry)) false (v .first) (buffers (now (exc .entry)) (now (speech .entry)))) ⌝ }
 {
     let first = v.first;
@@ -78,23 +89,10 @@ pub fn input_check(kind: u32, payload: &[u8], room: usize) -> u32
     if payload.len() != kind::payload_length(kind) {
         return 6;
     }
-    if room != 80 {
+    if room != FRAME_LENGTH {
         return 7;
     }
     0
-}
-
-// The 80 samples, behind the ten before them, are copied to lent memory.
-fn copy_samples(speech: &[i16], out: &mut [i16])
-    requires { ⌜ length (now speech) ≡ 90 ⌝ }
-    requires { ⌜ length (now out) ≡ 80 ⌝ }
-    ensures { λ r. ⌜ now (out .exit) ≡ drop 10 (now (speech .entry)) ⌝ }
-{
-    let mut i = 0;
-    while i < 80 {
-        out[i] = speech[10 + i];
-        i += 1;
-    }
 }
 
 // The first refusal that applies (01): 1 to 4 of the two blocks, then 5 to 7; or 0.
@@ -126,7 +124,7 @@ fn handed_up(v: Decoded) -> Report
 // A frame on values: the block that it leaves, its speech and what it hands up, from the block before it.
 fn decode(t: &[i16], d: Decision, b: &[i16]) -> Output
     ensures { λ r. ⌜ r .block ≡ write (decode (now (t .entry)) d (read (now (b .entry))) .state) ⌝ }
-    ensures { λ r. ⌜ drop 10 (r .speech) ≡ decode (now (t .entry)) d (read (now (b .entry))) .samples ⌝ }
+    ensures { λ r. ⌜ drop tail-length (r .speech) ≡ decode (now (t .entry)) d (read (now (b .entry))) .samples ⌝ }
     ensures { λ r. ⌜ r .report ≡ report (decode (now (t .entry)) d (read (now (b .entry))) .decoded) ⌝ }
 {
     let v = parameters::parameters(t, d, state::read_params(b));
@@ -152,10 +150,10 @@ pub fn frame(t: &[i16], b: &mut [i16], kind: u32, payload: &[u8], out: &mut [i16
         return Framed::Refused(number);
     }
     let f = decode(t, plc::decide(kind, payload), b);
-    let block = f.block;
+    let left = f.block;
     let speech = f.speech;
-    state::copy_block(b, block);
-    copy_samples(&speech, out);
+    state::copy_block(b, left);
+    block::words(&speech, TAIL_LENGTH, out);
     let report = f.report;
     Framed::Done(report)
 }
