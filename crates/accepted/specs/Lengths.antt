@@ -21,7 +21,8 @@ use Rattle.state.specs.declared.Params.{Params}
 use Rattle.state.specs.State.{Signal, State}
 use Rattle.state.specs.Laws.{Sized}
 use Rattle.parameters.specs.declared.Subframe.{Subframe}
-use Rattle.parameters.specs.Parameters.{voice, conceal, parameters}
+use Rattle.parameters.specs.Parameters.{parameters}
+use Rattle.parameters.specs.Parts.{Parts}
 use Rattle.decoder.specs.Frame.{Buffers, frame-buffers, subframe-signal, frame-signal, decode}
 
 length-spread : (spacing : ℤ) (k : ℕ) (l : List ℤ) → length (spread-pair spacing k l) ≡ length l
@@ -96,7 +97,7 @@ record Fitting (p : Params) : Type 0 where
 
 module _ (t : List ℤ) (s : State) (k : Sized s) where
   fitting : (d : Decision) → Fitting (parameters t d (s .params) .params)
-  unfolding parameters voice conceal gain.decode gain.conceal
+  unfolding Parts gain.decode gain.conceal
   fitting (Voice f) =
       record { r0 = length-row _ _ _ _; r1 = k .r0; r2 = k .r1; r3 = k .r2; omega = length-lsf _ _ _ _; lsp = length-lsp _ _; mem = length-push _ _ }
   fitting Concealment =

@@ -1,4 +1,4 @@
--- Demand 3 and the values, proved: see specs/Demand.antt and specs/Values.antt.
+-- What specs/Run.antt, specs/Demand.antt and specs/Values.antt claim, proved; claims/Proof.antt gathers it.
 pub mod Ranges
 pub mod Runs
 pub mod Agree

@@ -5,11 +5,12 @@ use mathlib.Core.List.{List}
 use lib.Dec.{T}
 use lib.IntN.{ℤ}
 use Rattle.bitstream.specs.declared.SpeechParams.{SpeechParams}
-use Rattle.adaptive.specs.Adaptive.{first, second}
-use Rattle.adaptive.specs.Laws.{t1-fraction-range, t2-integer-range, t2-fraction-range, first-range}
+use Rattle.pitch.specs.Pitch.{first, second}
+use Rattle.pitch.specs.Laws.{t1-fraction-range, t2-integer-range, t2-fraction-range, first-range}
 use Rattle.state.specs.declared.Params.{Params}
 use Rattle.state.specs.State.{delay-in-range, accepted}
-use Rattle.parameters.specs.Parameters.{subframe, voice}
+use Rattle.parameters.specs.Parameters.{voice}
+use Rattle.parameters.specs.Parts.{Parts}
 use Rattle.accepted.specs.Accepted.{carried-delay}
 use Rattle.agreement.specs.Demand.{fraction-in-range, InRange}
 
@@ -24,5 +25,5 @@ second-good p2 t1 = record { integer = t2-integer-range p2 t1; fraction = t2-fra
 
 -- the delays of a voice frame
 pub delays-good : (p : Params) → T (accepted p) → (t : List ℤ) (f : SpeechParams) → InRange (voice t f p .first .delay) × InRange (voice t f p .second .delay)
-unfolding voice subframe
+unfolding Parts
 delays-good p ok t f = (first-good (p .pitch .old) (f .p1) _ (carried-delay p ok), second-good (f .p2) _)

@@ -7,8 +7,8 @@ use lib.ListN.{replicate}
 use Rattle.basic_op.specs.Ops.{low16, extract-l}
 use Rattle.basic_op.specs.Values as operators
 use Rattle.bitstream.specs.Fields.{unpack}
-use Rattle.adaptive.specs.Adaptive.{parity-ok}
-use Rattle.adaptive.specs.Values as delays
+use Rattle.pitch.specs.Pitch.{parity-ok}
+use Rattle.pitch.specs.Values as delays
 use Rattle.fixed.specs.Fixed.{random, random-index}
 use Rattle.fixed.specs.Values as pulses
 use Rattle.state.specs.State.{fresh-params}

@@ -1,4 +1,5 @@
--- Demand 3, demand 2 on a whole call, and the values of the stages' definitions.
+-- Demand 3, demand 2 on a whole call, the values of the stages' definitions, and all of them as one promise.
 pub mod Demand
 pub mod Run
 pub mod Values
+pub mod Claims

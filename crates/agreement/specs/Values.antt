@@ -6,7 +6,7 @@ use lib.IntN.{ℤ, pos, negsuc}
 use lib.ListN.{replicate}
 use Rattle.basic_op.specs.Ops.{l-mult, norm-l}
 use Rattle.bitstream.specs.Fields.{unpack}
-use Rattle.adaptive.specs.Adaptive.{parity-ok, decode-t1, decode-t2, erased}
+use Rattle.pitch.specs.Pitch.{parity-ok, decode-t1, decode-t2, erased}
 use Rattle.fixed.specs.Fixed.{random, random-index, position, pulse}
 use Rattle.state.specs.State.{fresh-params}
 

@@ -4,6 +4,7 @@ use mathlib.Core.Bool.{Bool, true, false}
 use mathlib.Core.List.{List, _++_}
 use lib.IntN.{ℤ, pos}
 use lib.ListN.{drop, replicate}
+use Rattle.block.specs.Places.{frame-length, tail-length}
 use Rattle.tables.specs.Layout.{b30}
 use Rattle.adaptive.specs.Adaptive as adaptive
 use Rattle.synth.specs.Synth.{excitation, reconstruct-exc, reconstruct-speech}
@@ -25,7 +26,7 @@ buffers exc speech = record { exc = exc; speech = speech }
 
 -- the words kept from the frame before, and zeros for this frame's 80
 unfoldable pub frame-buffers : Signal → Buffers
-frame-buffers s = record { exc = s .past ++ replicate 80 (pos 0); speech = s .tail ++ replicate 80 (pos 0) }
+frame-buffers s = record { exc = s .past ++ replicate frame-length (pos 0); speech = s .tail ++ replicate frame-length (pos 0) }
 
 -- equations (40) and (75), then (77) with its second run
 unfoldable pub subframe-signal : List ℤ → Bool → Subframe → Buffers → Buffers
@@ -51,6 +52,6 @@ decode t d s =
     let b = frame-signal t (v .first) (v .second) (s .signal) in
     record {
       decoded = v;
-      samples = drop 10 (b .speech);
-      state = record { params = v .params; signal = record { past = drop 80 (b .exc); tail = drop 80 (b .speech) } };
+      samples = drop tail-length (b .speech);
+      state = record { params = v .params; signal = record { past = drop frame-length (b .exc); tail = drop frame-length (b .speech) } };
     }

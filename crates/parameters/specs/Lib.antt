@@ -1,3 +1,3 @@
--- A frame's parameters, which the contracts of `parameters` cite, and their parts.
+-- A frame's parameters, which the contracts of `parameters` cite; Parts opens them all.
 pub mod Parameters
 pub mod Parts

@@ -1,13 +1,12 @@
 // A frame's parameters (G.729 clauses 4.1 and 4.4; lib.rs of the Rust): from the fields of a frame that was received, or by concealment. They never read the signal.
 ghost use mathlib.Core.Path.{_≡_};
-ghost use Rattle.parameters.specs.Parameters.{past-rows, sharpened, subframe, voice, conceal, parameters};
-ghost use Rattle.parameters.specs.Parts.{to-spectrum, voice-spectrum, concealed-spectrum, voice-delays, concealed-delays, coded, voice-codes, draw, concealed-codes, next-params, to-decoded};
-use adaptive::Delay;
-use adaptive::PitchState;
-use adaptive::Tracked;
+ghost use Rattle.parameters.specs.Parameters.{past-rows, to-spectrum, voice-spectrum, concealed-spectrum, sharpened, coded, voice-codes, draw, concealed-codes, subframe, next-params, to-decoded, voice, conceal, parameters};
 use bitstream::SpeechParams;
 use fixed::Drawn;
 use gain::GainState;
+use pitch::Delay;
+use pitch::Delays;
+use pitch::PitchState;
 use plc::Decision;
 use state::Params;
 
@@ -37,12 +36,6 @@ struct Spectrum {
     lsp: [i16; 10],
     a1: [i16; 11],
     a2: [i16; 11],
-}
-
-// The delays of the two subframes, and the state after each.
-struct Delays {
-    first: Tracked,
-    second: Tracked,
 }
 
 // A subframe's sharpened codevector, the gains after it, and the factor that sharpens the next.
@@ -110,27 +103,6 @@ fn concealed_spectrum(t: &[i16], p: Params) -> Spectrum
     to_spectrum(t, row, omega, previous)
 }
 
-// Clauses 4.1.2 and 4.1.3.
-fn voice_delays(f: SpeechParams, pitch: PitchState) -> Delays
-    ensures { λ r. ⌜ r ≡ voice-delays f pitch ⌝ }
-{
-    let ok = adaptive::parity_ok(f.p1, f.p0);
-    let first = pitch.first(f.p1, ok);
-    let delay = first.delay;
-    let second = pitch.second(f.p2, delay.integer);
-    Delays { first, second }
-}
-
-// Clause 4.4.4: the carried delay, which grows by 1 in each subframe.
-fn concealed_delays(pitch: PitchState) -> Delays
-    ensures { λ r. ⌜ r ≡ concealed-delays pitch ⌝ }
-{
-    let first = pitch.erased();
-    let state = first.state;
-    let second = state.erased();
-    Delays { first, second }
-}
-
 // The codevector, sharpened with the subframe's delay and the factor of the subframe before (clauses 4.1.4 and 4.4.4).
 fn sharpened(t: &[i16], beta: i16, index: u16, sign: u16, delay: Delay) -> [i16; 40]
     ensures { λ r. ⌜ r ≡ sharpened (now (t .entry)) beta index sign delay ⌝ }
@@ -155,10 +127,8 @@ fn coded(t: &[i16], vector: [i16; 40], gain: GainState) -> Code
 fn voice_codes(t: &[i16], f: SpeechParams, d: Delays, gain: GainState, beta: i16) -> Codes
     ensures { λ r. ⌜ r ≡ voice-codes (now (t .entry)) f d gain beta ⌝ }
 {
-    let t1 = d.first;
-    let t2 = d.second;
-    let delay1 = t1.delay;
-    let delay2 = t2.delay;
+    let delay1 = d.first;
+    let delay2 = d.second;
     let code1 = sharpened(t, beta, f.c1, f.s1, delay1);
     let first = coded(t, code1, gain::decode(t, gain, f.ga1, f.gb1, code1));
     let gain1 = first.gain;
@@ -180,10 +150,8 @@ fn draw(seed: i16) -> Draws
 fn concealed_codes(t: &[i16], w: Draws, d: Delays, gain: GainState, beta: i16) -> Codes
     ensures { λ r. ⌜ r ≡ concealed-codes (now (t .entry)) w d gain beta ⌝ }
 {
-    let t1 = d.first;
-    let t2 = d.second;
-    let delay1 = t1.delay;
-    let delay2 = t2.delay;
+    let delay1 = d.first;
+    let delay2 = d.second;
     let draw1 = w.first;
     let draw2 = w.second;
     let code1 = sharpened(t, beta, draw1.index, draw1.sign, delay1);
@@ -217,10 +185,12 @@ fn next_params(
 ) -> Params
     ensures { λ r. ⌜ r ≡ next-params p predictor seed s pitch c ⌝ }
 {
-    let r0 = s.row;
-    let r1 = p.r0;
-    let r2 = p.r1;
-    let r3 = p.r2;
+    let row = s.row;
+    let rows = lsp::remember_output(past_rows(p), row);
+    let r0 = rows[0];
+    let r1 = rows[1];
+    let r2 = rows[2];
+    let r3 = rows[3];
     let omega = s.omega;
     let lsp = s.lsp;
     let gain = c.gain;
@@ -243,13 +213,11 @@ fn next_params(
 fn to_decoded(p: Params, predictor: i16, seed: i16, s: Spectrum, d: Delays, c: Codes) -> Decoded
     ensures { λ r. ⌜ r ≡ to-decoded p predictor seed s d c ⌝ }
 {
-    let t1 = d.first;
-    let t2 = d.second;
+    let delay1 = d.first;
+    let delay2 = d.second;
+    let pitch = d.state;
     let c1 = c.first;
     let c2 = c.second;
-    let delay1 = t1.delay;
-    let delay2 = t2.delay;
-    let pitch = t2.state;
     let gain1 = c1.gain;
     let gain2 = c2.gain;
     let code1 = c1.vector;
@@ -273,7 +241,7 @@ pub fn voice(t: &[i16], f: SpeechParams, p: Params) -> Decoded
     let pitch = p.pitch;
     let gain = p.gain;
     let s = voice_spectrum(t, f, p);
-    let d = voice_delays(f, pitch);
+    let d = pitch::voice_delays(pitch, f.p1, f.p0, f.p2);
     let c = voice_codes(t, f, d, gain, p.beta);
     to_decoded(p, (f.l0 % 2) as i16, p.seed, s, d, c)
 }
@@ -286,7 +254,7 @@ pub fn conceal(t: &[i16], p: Params) -> Decoded
     let pitch = p.pitch;
     let gain = p.gain;
     let s = concealed_spectrum(t, p);
-    let d = concealed_delays(pitch);
+    let d = pitch::concealed_delays(pitch);
     let c = concealed_codes(t, w, d, gain, p.beta);
     let last = w.second;
     to_decoded(p, p.predictor, last.seed, s, d, c)

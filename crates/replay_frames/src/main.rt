@@ -25,20 +25,17 @@ fn read_words(text: &mut [u8], words: &mut [i16]) -> bool {
     n == text.len()
 }
 
-// How many of the ten bytes of a payload a kind has: 10, 2, 0 and 0.
-fn size(kind: u32, most: usize) -> usize
+// A length, and no more than there is.
+pub(crate) fn length(n: usize, most: usize) -> usize
     ensures { λ r. ⌜ r ≤ most ⌝ }
 {
-    if kind == 0 {
-        return most;
-    }
-    if kind == 1 && 2 <= most { 2 } else { 0 }
+    if n < most { n } else { most }
 }
 
 // A frame with as much of the payload as its kind has.
 fn frame(t: &[i16], b: &mut [i16], kind: u32, payload: &[u8], out: &mut [i16]) -> u32 {
-    let n = size(kind, payload.len());
-    decoder::frame(t, b, kind, &payload[0..n], out)
+    let n = length(kind::payload_length(kind), payload.len());
+    decoder::code(decoder::frame(t, b, kind, &payload[0..n], out))
 }
 
 // One frame by one decoder; `row` counts its samples.

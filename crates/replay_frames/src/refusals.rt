@@ -10,8 +10,7 @@ use replay::tally;
 fn length(line: &[i16], at: usize, most: usize) -> usize
     ensures { λ r. ⌜ r ≤ most ⌝ }
 {
-    let n = part::number(line, at) as usize;
-    if n < most { n } else { most }
+    crate::length(part::number(line, at) as usize, most)
 }
 
 // A table block of zeros but for the initial delay.
@@ -47,13 +46,13 @@ fn frame(line: &[i16], t: &[i16], b: &mut [i16], payload: &[u8], out: &mut [i16]
     let k = length(line, 6, payload.len());
     let room = length(line, 7, out.len());
     let kind = part::number(line, 5) as u32;
-    decoder::frame(
+    decoder::code(decoder::frame(
         &t[0..n],
         &mut b[0..m],
         kind,
         &payload[0..k],
         &mut out[0..room],
-    )
+    ))
 }
 
 fn fields(line: &[i16], payload: &[u8], receiver: &mut [u16]) -> u32 {

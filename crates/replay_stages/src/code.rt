@@ -3,9 +3,9 @@
 ghost use Prim.Native.Nat.{_≤_};
 use crate::block;
 use crate::rows;
-use adaptive::PitchState;
-use adaptive::Tracked;
 use bitstream::SpeechParams;
+use pitch::PitchState;
+use pitch::Tracked;
 use replay::part;
 use replay::tally;
 
@@ -30,7 +30,7 @@ fn delay_left(f: &[i16], found: Tracked, tally: &mut [u32; 64]) {
 }
 
 fn voice_delays(p: SpeechParams, s: &[i16], f: &[i16], tally: &mut [u32; 64]) {
-    let ok = adaptive::parity_ok(p.p1, p.p0);
+    let ok = pitch::parity_ok(p.p1, p.p0);
     tally::number(tally, rows::PARITY, f, 26, ok as u16);
     let first = pitch(s).first(p.p1, ok);
     delay(f, 89, first, tally);

@@ -70,8 +70,8 @@ fn print_row(name: &[u8], tally: &[u32; 64], row: usize) {
 
 fn print_parameters(tally: &[u32; 64]) {
     print_row(b"bitstream::unpack", tally, UNPACK);
-    print_row(b"adaptive::parity_ok", tally, PARITY);
-    print_row(b"adaptive::PitchState", tally, DELAY);
+    print_row(b"pitch::parity_ok", tally, PARITY);
+    print_row(b"pitch::PitchState", tally, DELAY);
     print_row(b"lsp::new_row", tally, NEW_ROW);
     print_row(b"lsp::erased_row", tally, ERASED_ROW);
     print_row(b"lsp::decode_lsf", tally, DECODE_LSF);

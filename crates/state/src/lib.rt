@@ -10,7 +10,6 @@ ghost use Rattle.block.specs.Block.{part};
 ghost use Rattle.block.specs.Laws.{Front};
 ghost use Rattle.block.specs.Places.{frame-length, past-length, past-place, tail-length, tail-place, state-length};
 ghost use Rattle.state.specs.State.{read-params, lsp-words, exc-words, write-params, write, fresh-params, fresh, accepted, state-check, Answer, fresh-state};
-use adaptive::PitchState;
 use block::places::EXC_LENGTH;
 use block::places::FRAME_LENGTH;
 use block::places::PAST_LENGTH;
@@ -20,6 +19,7 @@ use block::places::STATE_LENGTH;
 use block::places::TAIL_LENGTH;
 use block::places::TAIL_PLACE;
 use gain::GainState;
+use pitch::PitchState;
 
 // Words 0 to 69 (G.729 clauses 3.2.4, 3.2.5, 3.9.1 and 4.4).
 pub struct Params {

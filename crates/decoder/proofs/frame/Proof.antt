@@ -1,7 +1,9 @@
 -- `decoder::frame` meets its contract: a refusal by its number, else the frame, of which both parts are written.
-use mathlib.Core.Path.{_∙_}
+use mathlib.Core.Path.{_≡_}
+use lib.ListN.{length}
+use Rattle.block.specs.Places.{speech-length}
 use denote.Ref.{now}
-use Rattle.decoder.specs.Laws.{refused, accepted, done}
+use Rattle.decoder.specs.Laws.{refused, done}
 use borrow.Author.Needs.{needs}
 use Rattle.decoder.proofs.frame.Statement.{statement}
 use Rattle.decoder.proofs.frame.Tie as tie
@@ -11,14 +13,12 @@ returns c =
     let a = c .before .before .before .before .args in
     refused (now (a .t)) (now (a .b)) (a .kind) (now (a .payload)) (now (a .out)) (c .before .refusal .ensures) (c .if1 .taken)
 
-copy-samples-requires : tie.Need-copy-samples-requires
-copy-samples-requires c κs =
-    let a = c .before .before .before .before .before .before .before .before .before .before .before .before .before .before .args in
-    (search needs, accepted (now (a .t)) (now (a .b)) (a .kind) (now (a .payload)) (now (a .out)) (c .before .before .before .before .before .before .before .before .before .before .before .refusal .ensures) (c .before .before .before .before .before .before .before .before .before .before .if1 .left) .1)
+sized : (c : tie.After-decode) → length (c .decode .result .speech) ≡ speech-length
+sized c = search needs
 
 returns-2 : tie.Need-returns-2
 returns-2 c =
-    let k₀ = c .before in
+    let k₀ = c .before .before in
     let k₁ = k₀ .before .before .before .before in
     let k₂ = k₁ .before .before .before .before in
     let k₃ = k₂ .before .before in
@@ -27,10 +27,10 @@ returns-2 c =
     let s = k₅ .before .before .before in
     let a = s .args in
     let f = k₂ .decode .ensures in
-    done (now (a .t)) (now (a .b)) (a .kind) (now (a .payload)) (now (a .out)) (k₅ .refusal .ensures) (k₄ .if1 .left) (k₃ .decide .ensures) (f .0) (k₀ .copy-samples .ensures ∙ f .1) (k₁ .copy-block .ensures)
+    done (now (a .t)) (now (a .b)) (a .kind) (now (a .payload)) (now (a .out)) (k₅ .refusal .ensures) (k₄ .if1 .left) (k₂ .decode .result .speech) (k₃ .decide .ensures) (f .0) (sized k₂) (f .1 .0) (k₀ .words .ensures) (f .1 .1) (k₁ .copy-block .ensures)
 
 pub frame-spec : {M : Type 1} → statement M
 frame-spec =
     tie.close
     (tie.spec (λ c κs. search needs) (λ c. search needs) returns (λ c κs. search needs) (λ c κs. search needs) (λ c κs. search needs)
-    (λ c. search needs) copy-samples-requires (λ c. search needs) (λ c. search needs) returns-2)
+    (λ c. search needs) (λ c κs. search needs) (λ c. search needs) (λ c. search needs) returns-2)

@@ -4,7 +4,7 @@ use Prim.Native.Nat.{_<_}
 use lib.Signed.{mag}
 use mir.Syntax.{w16}
 use Rattle.laws.specs.Back.{came, via}
-use Rattle.parameters.specs.Parts.{coded}
+use Rattle.parameters.specs.Parameters.{coded}
 use borrow.Author.Needs.{needs}
 use Rattle.parameters.proofs.coded.Statement.{statement}
 use Rattle.parameters.proofs.coded.Tie as tie

@@ -1,10 +1,9 @@
--- `parameters::conceal` meets its contract: its parts, which the calls give.
+-- `parameters::conceal` meets its contract: the calls, one after the other.
 use Prim.Native.Nat.{_<_}
 use lib.Signed.{mag}
-use denote.Ref.{now}
 use mir.Syntax.{w16}
 use Rattle.laws.specs.Back.{via}
-use Rattle.parameters.specs.Parts.{conceal-parts}
+use Rattle.parameters.specs.Parameters.{conceal}
 use borrow.Author.Needs.{needs}
 use Rattle.parameters.proofs.conceal.Statement.{statement}
 use Rattle.parameters.proofs.conceal.Tie as tie
@@ -16,6 +15,7 @@ drawn : (c : tie.After-draw) → mag (c .draw .result .second .seed) < 32768
 drawn c = search needs
 
 returns : tie.Need-returns
+unfolding conceal
 returns c =
     let k₀ = c .before .before .before .before in
     let k₁ = k₀ .before .before in
@@ -23,7 +23,7 @@ returns c =
     let k₃ = k₂ .before .before .before in
     let s = k₃ .before .before in
     let k = known s in
-    rw (c .to-decoded .ensures, k₀ .concealed-codes .ensures, k₁ .concealed-delays .ensures, k₂ .concealed-spectrum .ensures, via w16 (k₃ .draw .result .second .seed) (drawn k₃), k₃ .draw .ensures, via w16 (s .args .p .seed) (k .0), via w16 (s .args .p .beta) (k .1 .0), via w16 (s .args .p .predictor) (k .1 .1), conceal-parts (now (s .args .t)) (s .args .p))
+    rw (c .to-decoded .ensures, k₀ .concealed-codes .ensures, k₁ .concealed-delays .ensures, k₂ .concealed-spectrum .ensures, via w16 (k₃ .draw .result .second .seed) (drawn k₃), k₃ .draw .ensures, via w16 (s .args .p .seed) (k .0), via w16 (s .args .p .beta) (k .1 .0), via w16 (s .args .p .predictor) (k .1 .1))
 
 pub conceal-spec : {M : Type 1} → statement M
 conceal-spec =

@@ -3,7 +3,7 @@ use Prim.Native.Nat.{_<_}
 use lib.Signed.{mag}
 use mir.Syntax.{w16}
 use Rattle.laws.specs.Back.{via}
-use Rattle.parameters.specs.Parts.{concealed-spectrum}
+use Rattle.parameters.specs.Parameters.{concealed-spectrum}
 use borrow.Author.Needs.{needs}
 use Rattle.parameters.proofs.concealed_spectrum.Statement.{statement}
 use Rattle.parameters.proofs.concealed_spectrum.Tie as tie

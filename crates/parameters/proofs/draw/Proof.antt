@@ -4,7 +4,7 @@ use lib.Signed.{mag}
 use mir.Syntax.{w16}
 use Rattle.laws.specs.Back.{via}
 use mir.Facts.{toZ-ofZ}
-use Rattle.parameters.specs.Parts.{draw}
+use Rattle.parameters.specs.Parameters.{draw}
 use borrow.Author.Needs.{needs}
 use Rattle.parameters.proofs.draw.Statement.{statement}
 use Rattle.parameters.proofs.draw.Tie as tie

@@ -1,5 +1,5 @@
 -- `parameters::to_spectrum` meets its contract: the calls, one after the other.
-use Rattle.parameters.specs.Parts.{to-spectrum}
+use Rattle.parameters.specs.Parameters.{to-spectrum}
 use borrow.Author.Needs.{needs}
 use Rattle.parameters.proofs.to_spectrum.Statement.{statement}
 use Rattle.parameters.proofs.to_spectrum.Tie as tie

@@ -1,5 +1,5 @@
 -- `parameters::voice_spectrum` meets its contract: the calls, one after the other.
-use Rattle.parameters.specs.Parts.{voice-spectrum}
+use Rattle.parameters.specs.Parameters.{voice-spectrum}
 use borrow.Author.Needs.{needs}
 use Rattle.parameters.proofs.voice_spectrum.Statement.{statement}
 use Rattle.parameters.proofs.voice_spectrum.Tie as tie
