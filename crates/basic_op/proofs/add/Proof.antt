@@ -17,9 +17,6 @@ cast-sat16-2 c = sfits-widen tt (keep w16 tt (c .fits .b))
 add-sat16 : tie.Need-add-sat16
 add-sat16 c = fits-add w16 w16 w32 _ _ (keep w32 tt (keep w16 tt (c .fits .a))) (keep w32 tt (keep w16 tt (c .fits .b))) tt
 
-sat16-requires : tie.Need-sat16-requires
-sat16-requires c κs = search needs
-
 returns : tie.Need-returns
 unfolding add
 returns c =
@@ -27,4 +24,4 @@ returns c =
     cc (came w16 (c .sat16), toZ-ofZ (s .fits .a), toZ-ofZ (s .fits .b), toZ-ofZ (cast-sat16 s), toZ-ofZ (cast-sat16-2 s), toZ-ofZ (add-sat16 s))
 
 pub add-spec : {M : Type 1} → statement M
-add-spec = tie.close (tie.spec cast-sat16 cast-sat16-2 add-sat16 sat16-requires returns)
+add-spec = tie.close (tie.spec cast-sat16 cast-sat16-2 add-sat16 (λ c κs. search needs) returns)

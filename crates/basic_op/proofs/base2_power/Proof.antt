@@ -11,36 +11,6 @@ use Rattle.basic_op.specs.Oper32b.{base2-power}
 use Rattle.basic_op.proofs.base2_power.Statement.{statement}
 use Rattle.basic_op.proofs.base2_power.Tie as tie
 
-low16-requires : tie.Need-low16-requires
-low16-requires c κs = search needs
-
-cast-segment : tie.Need-cast-segment
-cast-segment c = search needs
-
-mul-weight : tie.Need-mul-weight
-mul-weight c = search needs
-
-cast-weight : tie.Need-cast-weight
-cast-weight c = search needs
-
-pow2-requires : tie.Need-pow2-requires
-pow2-requires c κs = search needs
-
-add-pow2 : tie.Need-add-pow2
-add-pow2 c = search needs
-
-pow2-requires-2 : tie.Need-pow2-requires-2
-pow2-requires-2 c κs = search needs
-
-interpolate-q15-requires : tie.Need-interpolate-q15-requires
-interpolate-q15-requires c κs = search needs
-
-sub-requires : tie.Need-sub-requires
-sub-requires c κs = search needs
-
-l-shr-r-requires : tie.Need-l-shr-r-requires
-l-shr-r-requires c κs = search needs
-
 returns : tie.Need-returns
 unfolding base2-power
 returns c =
@@ -68,5 +38,5 @@ returns c =
 pub base2-power-spec : {M : Type 1} → statement M
 base2-power-spec =
     tie.close
-    (tie.spec low16-requires cast-segment mul-weight cast-weight pow2-requires add-pow2 pow2-requires-2 interpolate-q15-requires sub-requires
-    l-shr-r-requires returns)
+    (tie.spec (λ c κs. search needs) (λ c. search needs) (λ c. search needs) (λ c. search needs) (λ c κs. search needs) (λ c. search needs)
+    (λ c κs. search needs) (λ c κs. search needs) (λ c κs. search needs) (λ c κs. search needs) returns)

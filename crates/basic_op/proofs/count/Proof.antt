@@ -28,8 +28,5 @@ returns : tie.Need-returns
 returns c =
     ap natAbs (toZ-ofZ (sub-result c) ∙ ap (λ (z : ℤ). pos 0 -ℤ z) (toZ-ofZ (cast-result c)) ∙ neg-part (toZ-ofZ (c .before .fits .n)) (c .if1 .taken))
 
-returns-2 : tie.Need-returns-2
-returns-2 c = search needs
-
 pub count-spec : {M : Type 1} → statement M
-count-spec = tie.close (tie.spec cast-result sub-result cast-result-2 cast-result-3 returns returns-2)
+count-spec = tie.close (tie.spec cast-result sub-result cast-result-2 cast-result-3 returns (λ c. search needs))

@@ -17,9 +17,6 @@ cast-sat32-2 c = sfits-widen tt (keep w32 tt (c .fits .b))
 add-sat32 : tie.Need-add-sat32
 add-sat32 c = fits-add w32 w32 w64 _ _ (keep w64 tt (keep w32 tt (c .fits .a))) (keep w64 tt (keep w32 tt (c .fits .b))) tt
 
-sat32-requires : tie.Need-sat32-requires
-sat32-requires c κs = search needs
-
 returns : tie.Need-returns
 unfolding l-add
 returns c =
@@ -27,4 +24,4 @@ returns c =
     cc (came w32 (c .sat32), toZ-ofZ (s .fits .a), toZ-ofZ (s .fits .b), toZ-ofZ (cast-sat32 s), toZ-ofZ (cast-sat32-2 s), toZ-ofZ (add-sat32 s))
 
 pub l-add-spec : {M : Type 1} → statement M
-l-add-spec = tie.close (tie.spec cast-sat32 cast-sat32-2 add-sat32 sat32-requires returns)
+l-add-spec = tie.close (tie.spec cast-sat32 cast-sat32-2 add-sat32 (λ c κs. search needs) returns)

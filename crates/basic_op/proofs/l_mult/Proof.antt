@@ -21,9 +21,6 @@ mul-sat32 c = fits-mul w16 w16 w64 _ _ (keep w64 tt (keep w16 tt (c .fits .a))) 
 mul-sat32-2 : tie.Need-mul-sat32-2
 mul-sat32-2 c = fits-mul w16 w32 w64 (pos 2) _ (sfits-lit tt) (keep w64 tt (fits-mul w16 w16 w32 _ _ (keep w64 tt (keep w16 tt (c .fits .a))) (keep w64 tt (keep w16 tt (c .fits .b))) tt)) tt
 
-sat32-requires : tie.Need-sat32-requires
-sat32-requires c κs = search needs
-
 returns : tie.Need-returns
 unfolding l-mult
 returns c =
@@ -31,4 +28,4 @@ returns c =
     cc (came w32 (c .sat32), toZ-ofZ (s .fits .a), toZ-ofZ (s .fits .b), toZ-ofZ (cast-sat32 s), toZ-ofZ (cast-sat32-2 s), toZ-ofZ (mul-sat32 s), toZ-ofZ (mul-sat32-2 s))
 
 pub l-mult-spec : {M : Type 1} → statement M
-l-mult-spec = tie.close (tie.spec cast-sat32 cast-sat32-2 mul-sat32 mul-sat32-2 sat32-requires returns)
+l-mult-spec = tie.close (tie.spec cast-sat32 cast-sat32-2 mul-sat32 mul-sat32-2 (λ c κs. search needs) returns)

@@ -21,9 +21,6 @@ mul-overflow32 c = fits-mul w16 w16 w64 _ _ (keep w64 tt (keep w16 tt (c .fits .
 mul-overflow32-2 : tie.Need-mul-overflow32-2
 mul-overflow32-2 c = fits-mul w16 w32 w64 (pos 2) _ (sfits-lit tt) (keep w64 tt (fits-mul w16 w16 w32 _ _ (keep w64 tt (keep w16 tt (c .fits .a))) (keep w64 tt (keep w16 tt (c .fits .b))) tt)) tt
 
-overflow32-requires : tie.Need-overflow32-requires
-overflow32-requires c κs = search needs
-
 returns : tie.Need-returns
 unfolding l-mult-overflow
 returns c =
@@ -31,4 +28,4 @@ returns c =
     cc (toZ-ofZ (s .fits .a), toZ-ofZ (s .fits .b), toZ-ofZ (cast-overflow32 s), toZ-ofZ (cast-overflow32-2 s), toZ-ofZ (mul-overflow32 s), toZ-ofZ (mul-overflow32-2 s))
 
 pub l-mult-overflow-spec : {M : Type 1} → statement M
-l-mult-overflow-spec = tie.close (tie.spec cast-overflow32 cast-overflow32-2 mul-overflow32 mul-overflow32-2 overflow32-requires returns)
+l-mult-overflow-spec = tie.close (tie.spec cast-overflow32 cast-overflow32-2 mul-overflow32 mul-overflow32-2 (λ c κs. search needs) returns)

@@ -15,9 +15,6 @@ cast-overflow32 c = sfits-widen tt (keep w32 tt (c .fits .x))
 mul-overflow32 : tie.Need-mul-overflow32
 mul-overflow32 c = fits-scale w32 w64 _ 8 (keep w64 tt (keep w32 tt (c .fits .x))) (lit< tt) (lit≤ tt)
 
-overflow32-requires : tie.Need-overflow32-requires
-overflow32-requires c κs = search needs
-
 returns : tie.Need-returns
 unfolding l-shl3-overflow
 returns c =
@@ -25,4 +22,4 @@ returns c =
     cc (toZ-ofZ (s .fits .x), toZ-ofZ (cast-overflow32 s), toZ-ofZ (mul-overflow32 s))
 
 pub l-shl3-overflow-spec : {M : Type 1} → statement M
-l-shl3-overflow-spec = tie.close (tie.spec cast-overflow32 mul-overflow32 overflow32-requires returns)
+l-shl3-overflow-spec = tie.close (tie.spec cast-overflow32 mul-overflow32 (λ c κs. search needs) returns)

@@ -17,9 +17,6 @@ cast-sat32 c = sfits-widen tt (keep w32 tt (c .before .fits .x))
 mul-sat32 : tie.Need-mul-sat32
 mul-sat32 c = fits-scale w32 w64 _ 4294967296 (keep w64 tt (keep w32 tt (c .before .fits .x))) (lit< tt) (lit≤ tt)
 
-sat32-requires : tie.Need-sat32-requires
-sat32-requires c κs = search needs
-
 returns : tie.Need-returns
 returns c =
     let s = c .before in
@@ -29,14 +26,8 @@ returns c =
 cast-sat32-2 : tie.Need-cast-sat32-2
 cast-sat32-2 c = sfits-widen tt (keep w32 tt (c .before .fits .x))
 
-pow64-requires : tie.Need-pow64-requires
-pow64-requires c κs = search needs
-
 mul-sat32-2 : tie.Need-mul-sat32-2
 mul-sat32-2 c = rw (came w64 (c .pow64), c .pow64 .ensures) (fits-shl w32 w64 _ (c .before .before .args .n) (keep w64 tt (keep w32 tt (c .before .before .fits .x))) (omega arith))
-
-sat32-requires-2 : tie.Need-sat32-requires-2
-sat32-requires-2 c κs = search needs
 
 returns-2 : tie.Need-returns-2
 returns-2 c =
@@ -44,4 +35,6 @@ returns-2 c =
     cc (came w32 (c .sat322), came w64 (c .before .pow64), toZ-ofZ (s .before .fits .x), toZ-ofZ (cast-sat32-2 s), toZ-ofZ (mul-sat32-2 (c .before)))
 
 pub l-shl-by-spec : {M : Type 1} → statement M
-l-shl-by-spec = tie.close (tie.spec cast-sat32 mul-sat32 sat32-requires returns cast-sat32-2 pow64-requires mul-sat32-2 sat32-requires-2 returns-2)
+l-shl-by-spec =
+    tie.close
+    (tie.spec cast-sat32 mul-sat32 (λ c κs. search needs) returns cast-sat32-2 (λ c κs. search needs) mul-sat32-2 (λ c κs. search needs) returns-2)

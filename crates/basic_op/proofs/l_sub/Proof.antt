@@ -17,9 +17,6 @@ cast-sat32-2 c = sfits-widen tt (keep w32 tt (c .fits .b))
 sub-sat32 : tie.Need-sub-sat32
 sub-sat32 c = fits-sub w32 w32 w64 _ _ (keep w64 tt (keep w32 tt (c .fits .a))) (keep w64 tt (keep w32 tt (c .fits .b))) tt
 
-sat32-requires : tie.Need-sat32-requires
-sat32-requires c κs = search needs
-
 returns : tie.Need-returns
 unfolding l-sub
 returns c =
@@ -27,4 +24,4 @@ returns c =
     cc (came w32 (c .sat32), toZ-ofZ (s .fits .a), toZ-ofZ (s .fits .b), toZ-ofZ (cast-sat32 s), toZ-ofZ (cast-sat32-2 s), toZ-ofZ (sub-sat32 s))
 
 pub l-sub-spec : {M : Type 1} → statement M
-l-sub-spec = tie.close (tie.spec cast-sat32 cast-sat32-2 sub-sat32 sat32-requires returns)
+l-sub-spec = tie.close (tie.spec cast-sat32 cast-sat32-2 sub-sat32 (λ c κs. search needs) returns)

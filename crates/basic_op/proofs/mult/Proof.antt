@@ -17,12 +17,6 @@ cast-sar32-2 c = sfits-widen tt (keep w16 tt (c .fits .b))
 mul-sar32 : tie.Need-mul-sar32
 mul-sar32 c = fits-mul w16 w16 w32 _ _ (keep w32 tt (keep w16 tt (c .fits .a))) (keep w32 tt (keep w16 tt (c .fits .b))) tt
 
-sar32-requires : tie.Need-sar32-requires
-sar32-requires c κs = search needs
-
-sat16-requires : tie.Need-sat16-requires
-sat16-requires c κs = search needs
-
 returns : tie.Need-returns
 unfolding mult
 returns c =
@@ -30,4 +24,4 @@ returns c =
     cc (came w16 (c .sat16), came w32 (c .before .sar32), toZ-ofZ (s .fits .a), toZ-ofZ (s .fits .b), toZ-ofZ (cast-sar32 s), toZ-ofZ (cast-sar32-2 s), toZ-ofZ (mul-sar32 s))
 
 pub mult-spec : {M : Type 1} → statement M
-mult-spec = tie.close (tie.spec cast-sar32 cast-sar32-2 mul-sar32 sar32-requires sat16-requires returns)
+mult-spec = tie.close (tie.spec cast-sar32 cast-sar32-2 mul-sar32 (λ c κs. search needs) (λ c κs. search needs) returns)

@@ -15,9 +15,6 @@ cast-overflow32 c = sfits-widen tt (keep w32 tt (c .fits .x))
 add-overflow32 : tie.Need-add-overflow32
 add-overflow32 c = fits-add w32 w32 w64 _ (pos 32768) (keep w64 tt (keep w32 tt (c .fits .x))) (sfits-lit tt) tt
 
-overflow32-requires : tie.Need-overflow32-requires
-overflow32-requires c κs = search needs
-
 returns : tie.Need-returns
 unfolding round-overflow
 returns c =
@@ -25,4 +22,4 @@ returns c =
     cc (toZ-ofZ (s .fits .x), toZ-ofZ (cast-overflow32 s), toZ-ofZ (add-overflow32 s))
 
 pub round-overflow-spec : {M : Type 1} → statement M
-round-overflow-spec = tie.close (tie.spec cast-overflow32 add-overflow32 overflow32-requires returns)
+round-overflow-spec = tie.close (tie.spec cast-overflow32 add-overflow32 (λ c κs. search needs) returns)

@@ -17,9 +17,6 @@ cast-sat16 c = sfits-widen tt (keep w16 tt (c .before .fits .a))
 mul-sat16 : tie.Need-mul-sat16
 mul-sat16 c = fits-scale w16 w32 _ 65536 (keep w32 tt (keep w16 tt (c .before .fits .a))) (lit< tt) (lit≤ tt)
 
-sat16-requires : tie.Need-sat16-requires
-sat16-requires c κs = search needs
-
 returns : tie.Need-returns
 returns c =
     let s = c .before in
@@ -29,14 +26,8 @@ returns c =
 cast-sat16-2 : tie.Need-cast-sat16-2
 cast-sat16-2 c = sfits-widen tt (keep w16 tt (c .before .fits .a))
 
-pow32-requires : tie.Need-pow32-requires
-pow32-requires c κs = search needs
-
 mul-sat16-2 : tie.Need-mul-sat16-2
 mul-sat16-2 c = rw (came w32 (c .pow32), c .pow32 .ensures) (fits-shl w16 w32 _ (c .before .before .args .n) (keep w32 tt (keep w16 tt (c .before .before .fits .a))) (omega arith))
-
-sat16-requires-2 : tie.Need-sat16-requires-2
-sat16-requires-2 c κs = search needs
 
 returns-2 : tie.Need-returns-2
 returns-2 c =
@@ -44,4 +35,6 @@ returns-2 c =
     cc (came w16 (c .sat162), came w32 (c .before .pow32), toZ-ofZ (s .before .fits .a), toZ-ofZ (cast-sat16-2 s), toZ-ofZ (mul-sat16-2 (c .before)))
 
 pub shl-by-spec : {M : Type 1} → statement M
-shl-by-spec = tie.close (tie.spec cast-sat16 mul-sat16 sat16-requires returns cast-sat16-2 pow32-requires mul-sat16-2 sat16-requires-2 returns-2)
+shl-by-spec =
+    tie.close
+    (tie.spec cast-sat16 mul-sat16 (λ c κs. search needs) returns cast-sat16-2 (λ c κs. search needs) mul-sat16-2 (λ c κs. search needs) returns-2)

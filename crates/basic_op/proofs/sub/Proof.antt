@@ -17,9 +17,6 @@ cast-sat16-2 c = sfits-widen tt (keep w16 tt (c .fits .b))
 sub-sat16 : tie.Need-sub-sat16
 sub-sat16 c = fits-sub w16 w16 w32 _ _ (keep w32 tt (keep w16 tt (c .fits .a))) (keep w32 tt (keep w16 tt (c .fits .b))) tt
 
-sat16-requires : tie.Need-sat16-requires
-sat16-requires c κs = search needs
-
 returns : tie.Need-returns
 unfolding sub
 returns c =
@@ -27,4 +24,4 @@ returns c =
     cc (came w16 (c .sat16), toZ-ofZ (s .fits .a), toZ-ofZ (s .fits .b), toZ-ofZ (cast-sat16 s), toZ-ofZ (cast-sat16-2 s), toZ-ofZ (sub-sat16 s))
 
 pub sub-spec : {M : Type 1} → statement M
-sub-spec = tie.close (tie.spec cast-sat16 cast-sat16-2 sub-sat16 sat16-requires returns)
+sub-spec = tie.close (tie.spec cast-sat16 cast-sat16-2 sub-sat16 (λ c κs. search needs) returns)

@@ -6,18 +6,6 @@ use borrow.Author.Needs.{needs}
 use Rattle.lpc.proofs.half_difference.Statement.{statement}
 use Rattle.lpc.proofs.half_difference.Tie as tie
 
-f1-prime-requires : tie.Need-f1-prime-requires
-f1-prime-requires c κs = search needs
-
-f2-prime-requires : tie.Need-f2-prime-requires
-f2-prime-requires c κs = search needs
-
-l-sub-requires : tie.Need-l-sub-requires
-l-sub-requires c κs = search needs
-
-half-q12-requires : tie.Need-half-q12-requires
-half-q12-requires c κs = search needs
-
 returns : tie.Need-returns
 returns c =
     let p = c .before .before in
@@ -27,4 +15,4 @@ returns c =
 pub half-difference-spec : {M : Type 1} → statement M
 half-difference-spec =
     tie.close
-    (tie.spec f1-prime-requires f2-prime-requires l-sub-requires half-q12-requires returns)
+    (tie.spec (λ c κs. search needs) (λ c κs. search needs) (λ c κs. search needs) (λ c κs. search needs) returns)

@@ -8,12 +8,6 @@ use borrow.Author.Needs.{needs}
 use Rattle.lpc.proofs.half_q12.Statement.{statement}
 use Rattle.lpc.proofs.half_q12.Tie as tie
 
-l-shr-r-requires : tie.Need-l-shr-r-requires
-l-shr-r-requires c κs = search needs
-
-extract-l-requires : tie.Need-extract-l-requires
-extract-l-requires c κs = search needs
-
 returns : tie.Need-returns
 unfolding half-q12
 returns c =
@@ -21,4 +15,4 @@ returns c =
     ∙ rw (came w32 (c .before .l-shr-r), c .before .l-shr-r .ensures, toZ-ofZ (c .before .before .fits .x))
 
 pub half-q12-spec : {M : Type 1} → statement M
-half-q12-spec = tie.close (tie.spec l-shr-r-requires extract-l-requires returns)
+half-q12-spec = tie.close (tie.spec (λ c κs. search needs) (λ c κs. search needs) returns)

@@ -6,18 +6,6 @@ use borrow.Author.Needs.{needs}
 use Rattle.lpc.proofs.half_sum.Statement.{statement}
 use Rattle.lpc.proofs.half_sum.Tie as tie
 
-f1-prime-requires : tie.Need-f1-prime-requires
-f1-prime-requires c κs = search needs
-
-f2-prime-requires : tie.Need-f2-prime-requires
-f2-prime-requires c κs = search needs
-
-l-add-requires : tie.Need-l-add-requires
-l-add-requires c κs = search needs
-
-half-q12-requires : tie.Need-half-q12-requires
-half-q12-requires c κs = search needs
-
 returns : tie.Need-returns
 returns c =
     let p = c .before .before in
@@ -27,4 +15,4 @@ returns c =
 pub half-sum-spec : {M : Type 1} → statement M
 half-sum-spec =
     tie.close
-    (tie.spec f1-prime-requires f2-prime-requires l-add-requires half-q12-requires returns)
+    (tie.spec (λ c κs. search needs) (λ c κs. search needs) (λ c κs. search needs) (λ c κs. search needs) returns)

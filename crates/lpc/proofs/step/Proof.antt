@@ -10,18 +10,6 @@ use borrow.Author.Needs.{needs}
 use Rattle.lpc.proofs.step.Statement.{statement}
 use Rattle.lpc.proofs.step.Tie as tie
 
-twice-product-requires : tie.Need-twice-product-requires
-twice-product-requires c κs = search needs
-
-sat32-requires : tie.Need-sat32-requires
-sat32-requires c κs = search needs
-
-l-sub-requires : tie.Need-l-sub-requires
-l-sub-requires c κs = search needs
-
-l-add-requires : tie.Need-l-add-requires
-l-add-requires c κs = search needs
-
 returns : tie.Need-returns
 unfolding step
 returns c =
@@ -45,4 +33,4 @@ returns c =
 pub step-spec : {M : Type 1} → statement M
 step-spec =
     tie.close
-    (tie.spec twice-product-requires sat32-requires l-sub-requires l-add-requires returns)
+    (tie.spec (λ c κs. search needs) (λ c κs. search needs) (λ c κs. search needs) (λ c κs. search needs) returns)

@@ -10,18 +10,6 @@ use borrow.Author.Needs.{needs}
 use Rattle.lpc.proofs.top.Statement.{statement}
 use Rattle.lpc.proofs.top.Tie as tie
 
-twice-product-requires : tie.Need-twice-product-requires
-twice-product-requires c κs = search needs
-
-sat32-requires : tie.Need-sat32-requires
-sat32-requires c κs = search needs
-
-l-shl-requires : tie.Need-l-shl-requires
-l-shl-requires c κs = search needs
-
-l-sub-requires : tie.Need-l-sub-requires
-l-sub-requires c κs = search needs
-
 returns : tie.Need-returns
 unfolding top
 returns c =
@@ -44,4 +32,4 @@ returns c =
 pub top-spec : {M : Type 1} → statement M
 top-spec =
     tie.close
-    (tie.spec twice-product-requires sat32-requires l-shl-requires l-sub-requires returns)
+    (tie.spec (λ c κs. search needs) (λ c κs. search needs) (λ c κs. search needs) (λ c κs. search needs) returns)

@@ -13,9 +13,6 @@ use Rattle.lpc.specs.Small.{four, twice-small}
 use Rattle.lpc.proofs.twice_product.Statement.{statement}
 use Rattle.lpc.proofs.twice_product.Tie as tie
 
-sar32-requires : tie.Need-sar32-requires
-sar32-requires c κs = search needs
-
 cast-sar64 : tie.Need-cast-sar64
 cast-sar64 c = sfits-widen tt (keep w32 tt (fits-came w32 (c .sar32)))
 
@@ -24,9 +21,6 @@ cast-sar64-2 c = sfits-widen tt (keep w16 tt (c .before .fits .q))
 
 mul-sar64 : tie.Need-mul-sar64
 mul-sar64 c = fits-mul w32 w16 w64 _ _ (keep w64 tt (keep w32 tt (fits-came w32 (c .sar32)))) (keep w64 tt (keep w16 tt (c .before .fits .q))) tt
-
-sar64-requires : tie.Need-sar64-requires
-sar64-requires c κs = search needs
 
 value : (c : tie.After-sar64) → toZ w64 (ofZ w64 (c .sar64 .result)) *ℤ pos 4 ≡ multiply-32-by-16 (c .before .before .args .v) (c .before .before .args .q) *ℤ pos 2
 value c =
@@ -56,4 +50,4 @@ returns c = toZ-ofZ (mul-result c) ∙ value c
 pub twice-product-spec : {M : Type 1} → statement M
 twice-product-spec =
     tie.close
-    (tie.spec sar32-requires cast-sar64 cast-sar64-2 mul-sar64 sar64-requires mul-result returns)
+    (tie.spec (λ c κs. search needs) cast-sar64 cast-sar64-2 mul-sar64 (λ c κs. search needs) mul-result returns)
