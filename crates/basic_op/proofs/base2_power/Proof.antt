@@ -1,6 +1,5 @@
 -- `basic_op::base2_power` meets its contract. Assumes nothing.
 use Prim.Native.Nat.{_*_, _%_}
-use mathlib.Core.Path.{_∙_}
 use native.Mathlib.Omega.{arith}
 use mir.Syntax.{w16, w32}
 use mir.ValLaws.{toZ-pos}
@@ -14,24 +13,17 @@ use Rattle.basic_op.proofs.base2_power.Tie as tie
 returns : tie.Need-returns
 unfolding base2-power
 returns c =
-    let m = c .before .before in
-    let b = m .before in
-    let a = b .before in
-    let f = a .before in
+    let b = c .before .before .before in
+    let f = b .before .before in
     let s = f .before in
-    came w32 (c .l-shr-r) ∙ c .l-shr-r .ensures
-    ∙ rw (
-      came w32 (m .interpolate-q15),
-      m .interpolate-q15 .ensures,
-      came w16 (b .pow22),
-      b .pow22 .ensures,
-      came w16 (a .pow2),
-      a .pow2 .ensures,
-      toZ-pos w16 (32 * (f .low16 .result % 1024)) (omega arith),
+    cc (
+      came w32 (c .l-shr-r),
       came w16 (c .before .sub),
-      c .before .sub .ensures,
+      came w32 (c .before .before .interpolate-q15),
+      came w16 (b .pow22),
+      came w16 (b .before .pow2),
+      toZ-pos w16 (32 * (f .low16 .result % 1024)) (omega arith),
       toZ-ofZ (s .fits .integer),
-      f .low16 .ensures,
       toZ-ofZ (s .fits .fraction),
     )
 

@@ -13,4 +13,7 @@ returns c =
     cc (came w16 (c .fixed-gain), came w16 (c .before .pitch-gain), came w16 (e .gain-error), came w32 (e .before .gamma))
 
 pub decode-spec : {M : Type 1} → statement M
-decode-spec = tie.close (tie.spec (λ c κs. search needs) (λ c κs. search needs) (λ c κs. search needs) (λ c κs. search needs) (λ c κs. search needs) (λ c κs. search needs) (λ c κs. search needs) (λ c κs. search needs) returns)
+decode-spec =
+    tie.close
+    (tie.spec (λ c κs. search needs) (λ c κs. search needs) (λ c κs. search needs) (λ c κs. search needs) (λ c κs. search needs)
+    (λ c κs. search needs) (λ c κs. search needs) (λ c κs. search needs) returns)

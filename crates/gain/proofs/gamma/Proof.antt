@@ -1,5 +1,4 @@
 -- `gain::gamma` meets its contract. Assumes nothing.
-use mathlib.Core.Path.{_∙_}
 use borrow.Author.Needs.{needs}
 use mir.Syntax.{w16, w32}
 use mir.Facts.{toZ-ofZ, sfits-widen}
@@ -16,13 +15,7 @@ cast-l-add-2 c = sfits-widen tt (keep w16 tt (fits-came w16 (c .gain-gb)))
 returns : tie.Need-returns
 returns c =
     let b = c .before in
-    rw (
-      came w32 (c .l-add) ∙ c .l-add .ensures,
-      toZ-ofZ (cast-l-add b),
-      toZ-ofZ (cast-l-add-2 b),
-      came w16 (b .gain-gb) ∙ b .gain-gb .ensures,
-      came w16 (b .before .gain-ga) ∙ b .before .gain-ga .ensures,
-    )
+    cc (came w32 (c .l-add), toZ-ofZ (cast-l-add b), toZ-ofZ (cast-l-add-2 b), came w16 (b .gain-gb), came w16 (b .before .gain-ga))
 
 pub gamma-spec : {M : Type 1} → statement M
 gamma-spec = tie.close (tie.spec (λ c κs. search needs) (λ c κs. search needs) cast-l-add cast-l-add-2 (λ c κs. search needs) returns)

@@ -13,4 +13,7 @@ returns c =
     cc (came w32 (c .l-shr), came w32 (c .before .l-mult), came w16 (c .before .before .scalars), came w16 (e .extract-h), came w32 (e .before .prediction), came w32 (e .before .before .mean-and-energy))
 
 pub log2-gain-spec : {M : Type 1} → statement M
-log2-gain-spec = tie.close (tie.spec (λ c κs. search needs) (λ c κs. search needs) (λ c κs. search needs) (λ c κs. search needs) (λ c κs. search needs) (λ c κs. search needs) returns)
+log2-gain-spec =
+    tie.close
+    (tie.spec (λ c κs. search needs) (λ c κs. search needs) (λ c κs. search needs) (λ c κs. search needs) (λ c κs. search needs)
+    (λ c κs. search needs) returns)

@@ -19,4 +19,6 @@ returns c =
     cc (came w16 (c .sub), came w16 (c .before .before .extract-l), came w32 (p .base2-power), via w16 (k .split-high-low .result .upper) (parts k .0), via w16 (k .split-high-low .result .lower) (parts k .1), came w32 (k .before .log2-gain))
 
 pub predict-spec : {M : Type 1} → statement M
-predict-spec = tie.close (tie.spec (λ c κs. search needs) (λ c κs. search needs) (λ c κs. search needs) (λ c κs. search needs) (λ c κs. search needs) returns)
+predict-spec =
+    tie.close
+    (tie.spec (λ c κs. search needs) (λ c κs. search needs) (λ c κs. search needs) (λ c κs. search needs) (λ c κs. search needs) returns)

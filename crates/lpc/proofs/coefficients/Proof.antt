@@ -12,27 +12,17 @@ unfolding coefficient tab
 returns c =
     let d = c .before .before .before .before in
     let s = d .before in
-    rw (
+    cc (
       came w16 (c .half-difference5),
-      c .half-difference5 .ensures,
       came w16 (c .before .half-difference4),
-      c .before .half-difference4 .ensures,
       came w16 (c .before .before .half-difference3),
-      c .before .before .half-difference3 .ensures,
       came w16 (c .before .before .before .half-difference2),
-      c .before .before .before .half-difference2 .ensures,
       came w16 (d .half-difference),
-      d .half-difference .ensures,
       came w16 (s .half-sum5),
-      s .half-sum5 .ensures,
       came w16 (s .before .half-sum4),
-      s .before .half-sum4 .ensures,
       came w16 (s .before .before .half-sum3),
-      s .before .before .half-sum3 .ensures,
       came w16 (s .before .before .before .half-sum2),
-      s .before .before .before .half-sum2 .ensures,
       came w16 (s .before .before .before .before .half-sum),
-      s .before .before .before .before .half-sum .ensures,
     )
 
 pub coefficients-spec : {M : Type 1} → statement M

@@ -1,5 +1,4 @@
 -- `lpc::top` meets its contract: operators in a row, after the doubled product. Assumes nothing.
-use mathlib.Core.Path.{_∙_}
 use mir.Syntax.{w32, w64}
 use mir.Facts.{toZ-ofZ}
 use Rattle.laws.specs.Back.{came}
@@ -13,16 +12,12 @@ use Rattle.lpc.proofs.top.Tie as tie
 returns : tie.Need-returns
 unfolding top
 returns c =
-    let m = c .before .before .before in
-    let s = m .before in
-    came w32 (c .l-sub) ∙ c .l-sub .ensures
-    ∙ rw (
+    let s = c .before .before .before .before in
+    cc (
+      came w32 (c .l-sub),
       came w32 (c .before .l-shl),
-      c .before .l-shl .ensures,
       came w32 (c .before .before .sat32),
-      c .before .before .sat32 .ensures,
-      came w64 (m .twice-product),
-      m .twice-product .ensures,
+      came w64 (c .before .before .before .twice-product),
       toZ-ofZ (s .fits .previous),
       toZ-ofZ (s .fits .q),
       toZ-ofZ (s .fits .older),
