@@ -3,7 +3,8 @@ use Prim.Native.Nat.{ℕ, zero, suc, _+_, _-_, _*_, _^_, _≤_, _<_, zero-le}
 use mathlib.Core.Path.{_≡_, refl, sym, ap, _∙_, subst}
 use mathlib.Core.Bool.{Bool, true, false, cond}
 use native.Mathlib.Omega.{arith}
-use native.Mathlib.Nat.{suc-mul, zero-mul, le-refl, lt-of-lt-of-le, lt-of-le-of-lt}
+use native.Mathlib.Nat.{suc-mul, zero-mul, pow-suc, le-refl, lt-of-lt-of-le, lt-of-le-of-lt}
+use lib.Pow.{pow-pos}
 use lib.Dec.{T, ltb, ltb→lt}
 use lib.IntN.{ℤ, pos, negsuc, negℤ, natAbs, _+ℤ_, _*ℤ_, +ℤ-assoc, +ℤ-comm}
 use lib.Signed.{mag, ltZ, shrZ}
@@ -11,6 +12,7 @@ use borrow.Author.Tests.{lt-ltb, le-ltb, ltb-true, ltb-false, ne-eqb}
 use mir.Syntax.{Width}
 use mir.Val.{SFits, hbits}
 use Rattle.basic_op.specs.Ops.{sat, sat32, l-mult, l-add, l-mac, extract-h, round, by-sign, rounded}
+use Rattle.laws.specs.Ints.{shr-half}
 use Rattle.laws.specs.Sums.{abs-add}
 use Rattle.laws.specs.Range.{mag-abs, within}
 
@@ -132,9 +134,13 @@ pub rounded-far : (x : ℤ) (k : ℕ) → 31 < k → pos 0 ≡ rounded x k
 unfolding rounded
 rounded-far x k h = rw (ne-eqb k 0 (λ e. omega arith), lt-ltb 31 k h)
 
+-- as the code computes it: a shift by k - 1, one more, and a shift by 1
 pub rounded-in : (x : ℤ) (k : ℕ) → (k ≡ 0 → ⊥) → k ≤ 31 → shrZ (shrZ x (2 ^ (k - 1)) +ℤ pos 1) 2 ≡ rounded x k
 unfolding rounded
-rounded-in x k n h = rw (ne-eqb k 0 n, le-ltb 31 k h)
+rounded-in x k n h =
+    let e : suc (k - 1) ≡ k = omega arith in
+    rw (ne-eqb k 0 n, le-ltb 31 k h)
+    (shr-half x (2 ^ (k - 1)) (pow-pos (k - 1)) ∙ ap (shrZ (x +ℤ pos (2 ^ (k - 1)))) (sym (pow-suc 2 (k - 1)) ∙ ap (λ (j : ℕ). 2 ^ j) e))
 
 -- ---- doubles that stay below 2 ^ 31: no step of `l-mac` or `round` saturates
 

@@ -22,6 +22,7 @@ join-high-low upper lower = l-mac (l-deposit-h upper) lower (pos 1)
 unfoldable pub multiply-split-by-16 : ℤ → ℤ → ℤ → ℤ
 multiply-split-by-16 upper lower factor = l-mac (l-mult upper factor) (mult lower factor) (pos 1)
 
+-- a number, split, times a factor in Q15: lpc's definitions say so, and its code takes one step (`product-is` of Product)
 unfoldable pub multiply-32-by-16 : ℤ → ℤ → ℤ
 multiply-32-by-16 x factor = multiply-split-by-16 ((split-high-low x) .upper) ((split-high-low x) .lower) factor
 

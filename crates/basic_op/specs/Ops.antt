@@ -84,7 +84,7 @@ l-shr x n = by-sign n (λ k. shrZ x (2 ^ k)) (λ k. sat32 (x *ℤ pos (2 ^ k)))
 
 -- x / 2 ^ k rounded to the nearest, halves upward; 0 where k is above 31
 unfoldable pub rounded : ℤ → ℕ → ℤ
-rounded x k = cond (eqb k 0) x (cond (ltb 31 k) (pos 0) (shrZ (shrZ x (2 ^ (k - 1)) +ℤ pos 1) 2))
+rounded x k = cond (eqb k 0) x (cond (ltb 31 k) (pos 0) (shrZ (x +ℤ pos (2 ^ (k - 1))) (2 ^ k)))
 
 unfoldable pub l-shr-r : ℤ → ℤ → ℤ
 l-shr-r x n = by-sign n (rounded x) (λ k. sat32 (x *ℤ pos (2 ^ k)))

@@ -9,7 +9,7 @@ use lib.Signed.{mag, shrZ, natAbs-le}
 use mir.Syntax.{w16}
 use mir.ValLaws.{toZ-pos}
 use Rattle.laws.specs.Range.{mag-scale, mag-word, mag-shr-is, floor-div}
-use Rattle.laws.specs.Ints.{add-swap, mul-add, mul-assoc, shr-split}
+use Rattle.laws.specs.Ints.{add-swap, mul-add, mul-assoc, shr-split, shr-shr}
 use Rattle.basic_op.specs.Ops.{sat, l-mult, l-mac, l-msu, l-sub, l-add, mult, extract-h, extract-l, low16}
 use Rattle.basic_op.specs.Oper32b.{split-high-low, multiply-split-by-16, multiply-32-by-16}
 use Rattle.basic_op.specs.Laws.{sat-id}
@@ -28,10 +28,6 @@ times-one (negsuc n) = ap (λ (k : ℕ). negℤ (pos k)) (mul-one (suc n))
 
 -- ---- the two parts of a number: its upper 16 bits, and the 15 below them
 
-shr-twice : (v : ℤ) → shrZ (shrZ v 2) 32768 ≡ shrZ v 65536
-shr-twice (pos n) = ap pos (omega arith)
-shr-twice (negsuc n) = ap negsuc (omega arith)
-
 record Parts (v : ℤ) : Type 0 where
   low : ℕ
   less : low < 32768
@@ -40,7 +36,7 @@ record Parts (v : ℤ) : Type 0 where
 parts : (v : ℤ) → Parts v
 parts v =
     let f = floor-div (shrZ v 2) 32768 (lit< tt) in
-    record { low = f .rest; less = f .less; sum = f .sum ∙ ap (λ (x : ℤ). x *ℤ pos 32768 +ℤ pos (f .rest)) (shr-twice v) }
+    record { low = f .rest; less = f .less; sum = f .sum ∙ ap (λ (x : ℤ). x *ℤ pos 32768 +ℤ pos (f .rest)) (shr-shr v 2 32768) }
 
 rest : (a b : ℤ) → a +ℤ b -ℤ a ≡ b
 rest a b = add-swap a b (negℤ a) ∙ ap (λ (x : ℤ). x +ℤ b) (+ℤ-invr a) ∙ +ℤ-idl b

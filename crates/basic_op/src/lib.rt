@@ -7,7 +7,7 @@ ghost use lib.IntN.{pos, negsuc, natAbs, _+ℤ_, _-ℤ_, _*ℤ_};
 ghost use lib.Signed.{shrZ, mag};
 ghost use Rattle.tables.specs.Layout.{log2};
 ghost use Rattle.basic_op.specs.Ops.{sat16, sat32, add, sub, l-mult, l-add, l-sub, l-mac, l-msu, mult, extract-h, extract-l, round, l-deposit-h, shl, l-shl, l-shr, l-shr-r, norm-l, low16, lesser, greater, overflow32, l-mult-overflow, l-msu-overflow, round-overflow, l-shl3-overflow};
-ghost use Rattle.basic_op.specs.Oper32b.{split-high-low, join-high-low, multiply-split-by-16, multiply-32-by-16, interpolate-q15, log-fraction, base2-log, base2-power};
+ghost use Rattle.basic_op.specs.Oper32b.{split-high-low, join-high-low, multiply-split-by-16, interpolate-q15, log-fraction, base2-log, base2-power};
 use tables::formula;
 
 // ---- saturation
@@ -365,14 +365,6 @@ pub fn multiply_split_by_16(upper: i16, lower: i16, factor: i16) -> i32
     ensures { λ r. ⌜ r ≡ multiply-split-by-16 upper lower factor ⌝ }
 {
     l_mac(l_mult(upper, factor), mult(lower, factor), 1)
-}
-
-// A 32-bit value, split, times a factor in Q15.
-pub fn multiply_32_by_16(value: i32, factor: i16) -> i32
-    ensures { λ r. ⌜ r ≡ multiply-32-by-16 value factor ⌝ }
-{
-    let s = split_high_low(value);
-    multiply_split_by_16(s.upper, s.lower, factor)
 }
 
 // From one entry of a table toward the next by a weight in Q15.

@@ -14,7 +14,7 @@ use mir.Syntax.{w16, w32}
 use mir.Val.{SFits}
 use Rattle.laws.specs.Range.{mag-add, mag-mul}
 use Rattle.laws.specs.Lists.{at}
-use Rattle.laws.specs.Loops.{steps, run, run-none, run-end}
+use Rattle.laws.specs.Loops.{steps, run, run-none, ended-from}
 use Rattle.basic_op.specs.Ops.{add, mult, shl}
 use Rattle.fixed.specs.Fixed.{position, pulse, codevector, sharpen}
 
@@ -51,7 +51,7 @@ abbrev pub add-delayed : ℕ → ℤ → ℕ → List ℤ → ℤ
 add-delayed t0 b k c = add (at c (t0 + k)) (mult (at c k) b)
 
 pub add-delayed-end : {b y : ℤ} (t0 n : ℕ) (code out : List ℤ) → y ≡ b → n ≡ 40 - t0 → out ≡ run (add-delayed t0 y) t0 n code → out ≡ run (add-delayed t0 b) t0 (40 - t0) code
-add-delayed-end t0 n code out e h g = run-end (add-delayed t0 _) t0 n (40 - t0) code out g h ∙ ap (λ (x : ℤ). run (add-delayed t0 x) t0 (40 - t0) code) e
+add-delayed-end t0 n code out e h g = ended-from (run (add-delayed t0 _) t0) (40 - t0) g h ∙ ap (λ (x : ℤ). run (add-delayed t0 x) t0 (40 - t0) code) e
 
 -- ---- `sharpen`, by the code's tests on y, which is t0 read back
 
@@ -75,7 +75,7 @@ module _ (code : List ℤ) (beta : ℤ) {y t0 : ℤ} (e : y ≡ t0) where
       go (negsuc n) q = let h : _≡_ {A = Bool} true false = q in absurd (subst T h tt)
 
   pub sharpen-far : ltZ y (pos 1) ≡ false → 39 < natAbs y → code ≡ sharpen code t0 beta
-  sharpen-far p h = run-end (add-delayed (natAbs y) (shl beta (pos 1))) (natAbs y) 0 (40 - natAbs y) code code (run-none _ _ code) (omega arith) ∙ sharpen-is p
+  sharpen-far p h = ended-from (run (add-delayed (natAbs y) (shl beta (pos 1))) (natAbs y)) (40 - natAbs y) (run-none _ _ code) (omega arith) ∙ sharpen-is p
 
 -- a number that is not below 1 is no negative one
 pub positive : (z : ℤ) → ltZ z (pos 1) ≡ false → T (nonNeg z)

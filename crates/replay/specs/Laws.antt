@@ -12,7 +12,7 @@ use mir.Val.{toZ}
 use mir.ValLaws.{toZ-pos}
 use Rattle.basic_op.specs.Ops.{sat, l-sub}
 use Rattle.laws.specs.Lists.{at}
-use Rattle.laws.specs.Loops.{steps, steps-turn, steps-end}
+use Rattle.laws.specs.Loops.{steps, steps-turn, ended-from}
 use Rattle.replay.specs.Replay.{count, unequal, compare}
 
 -- one digit more
@@ -52,4 +52,4 @@ module _ (row : ℕ) (l : List ℤ) (p : ℕ) (v : List ℤ) (skip : ℕ) (t₀ 
   -- after the last turn
   pub first-end : (n : ℕ) (t : List ℕ) → t ≡ first (n - skip) → n - skip ≡ length v - skip → t ≡ compare row l p v skip t₀
   unfolding first compare
-  first-end n t e h = steps-end _ _ _ _ _ e h
+  first-end n t e h = ended-from (steps _) _ e h

@@ -67,6 +67,12 @@ fn split(x: i32) -> Results {
     two(s.upper, s.lower)
 }
 
+// A split number times a factor, as the definitions of lpc multiply; the code of lpc takes one step.
+fn product(x: i32, factor: i16) -> Results {
+    let s = basic_op::split_high_low(x);
+    one(basic_op::multiply_split_by_16(s.upper, s.lower, factor))
+}
+
 // Operators 00 to 0d.
 fn basic(op: u32, a: u32, b: u32, c: u32) -> Results {
     match op {
@@ -97,7 +103,7 @@ fn extended(op: u32, a: u32, b: u32, c: u32) -> Results {
         18 => split(signed(a)),
         19 => one(basic_op::join_high_low(word(a), word(b))),
         20 => one(basic_op::multiply_split_by_16(word(a), word(b), word(c))),
-        21 => one(basic_op::multiply_32_by_16(signed(a), word(b))),
+        21 => product(signed(a), word(b)),
         _ => one(basic_op::base2_power(word(a), word(b))),
     }
 }

@@ -4,7 +4,7 @@ use Prim.Native.Nat.{_+_, _-_, _≤_}
 use native.Mathlib.Omega.{arith}
 use borrow.Author.Needs.{needs}
 use mir.Syntax.{w16}
-use Rattle.laws.specs.Loops.{run-end, write}
+use Rattle.laws.specs.Loops.{run, write, ended-from}
 use Rattle.laws.specs.Back.{via}
 use Rattle.adaptive.specs.Adaptive.{interpolate}
 use Rattle.adaptive.specs.Fast.{Continues}
@@ -22,7 +22,7 @@ loop-again c =
     (search needs, λ l e. write _ _ _ _ _ _ (c .before .before .before .loop .inv .1 l e) (via w16 _ (c .interpolate .ok) ∙ c .interpolate .ensures))
 
 returns : tie.Need-returns Inv-loop μ-loop
-returns c = λ l e. run-end _ _ _ 40 _ _ (c .before .loop .inv .1 l e) (omega arith)
+returns c = λ l e. ended-from (run _ _) 40 (c .before .loop .inv .1 l e) (omega arith)
 
 pub rest-spec : {M : Type 1} → statement M
 rest-spec =

@@ -1,30 +1,19 @@
 -- `basic_op::add` meets its contract. Assumes nothing.
 use borrow.Author.Needs.{needs}
 use mir.Syntax.{w16, w32}
-use mir.Facts.{toZ-ofZ, sfits-widen}
+use mir.Facts.{toZ-ofZ}
 use Rattle.basic_op.specs.Ops.{add}
 use Rattle.laws.specs.Range.{fits-add}
-use Rattle.laws.specs.Back.{came, keep}
+use Rattle.laws.specs.Back.{came, widens, wide, still}
 use Rattle.basic_op.proofs.add.Statement.{statement}
 use Rattle.basic_op.proofs.add.Tie as tie
 
-cast-sat16 : tie.Need-cast-sat16
-cast-sat16 c = sfits-widen tt (keep w16 tt (c .fits .a))
-
-cast-sat16-2 : tie.Need-cast-sat16-2
-cast-sat16-2 c = sfits-widen tt (keep w16 tt (c .fits .b))
-
-add-sat16 : tie.Need-add-sat16
-add-sat16 c = fits-add w16 w16 w32 _ _ (keep w32 tt (keep w16 tt (c .fits .a))) (keep w32 tt (keep w16 tt (c .fits .b))) tt
-
-sat16-requires : tie.Need-sat16-requires
-sat16-requires c κs = search needs
+whole : tie.Need-add-sat16
+whole c = fits-add w16 w16 w32 _ _ (still w32 tt (c .fits .a)) (still w32 tt (c .fits .b)) tt
 
 returns : tie.Need-returns
 unfolding add
-returns c =
-    let s = c .before in
-    cc (came w16 (c .sat16), toZ-ofZ (s .fits .a), toZ-ofZ (s .fits .b), toZ-ofZ (cast-sat16 s), toZ-ofZ (cast-sat16-2 s), toZ-ofZ (add-sat16 s))
+returns c = cc (came w16 (c .sat16), wide w32 tt (c .before .fits .a), wide w32 tt (c .before .fits .b), toZ-ofZ (whole (c .before)))
 
 pub add-spec : {M : Type 1} → statement M
-add-spec = tie.close (tie.spec cast-sat16 cast-sat16-2 add-sat16 sat16-requires returns)
+add-spec = tie.close (tie.spec (λ c. widens w32 tt (c .fits .a)) (λ c. widens w32 tt (c .fits .b)) whole (λ c κs. search needs) returns)

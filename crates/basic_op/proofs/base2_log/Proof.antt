@@ -26,12 +26,6 @@ shifted c =
     let f = toZ-ofZ (c .before .before .before .fits .value) in
     came w32 (c .l-shl) ∙ c .l-shl .ensures ∙ rw (f, left c, ← (value c .norm)) (value c .shifted)
 
-norm-l-requires : tie.Need-norm-l-requires
-norm-l-requires c κs = search needs
-
-l-shl-requires : tie.Need-l-shl-requires
-l-shl-requires c κs = search needs
-
 cast-m : tie.Need-cast-m
 cast-m c = (nonneg-of (shifted c), rw (shifted c) (record { fits = omega (arith, value c .high) }))
 
@@ -49,4 +43,4 @@ returns-2 c =
 pub base2-log-spec : {M : Type 1} → statement M
 base2-log-spec =
     tie.close
-    (tie.spec returns norm-l-requires l-shl-requires cast-m sub-t7 log-fraction-requires returns-2)
+    (tie.spec returns (λ c κs. search needs) (λ c κs. search needs) cast-m sub-t7 log-fraction-requires returns-2)

@@ -9,9 +9,6 @@ use Rattle.basic_op.specs.Ops.{extract-h}
 use Rattle.basic_op.proofs.extract_h.Statement.{statement}
 use Rattle.basic_op.proofs.extract_h.Tie as tie
 
-sar32-requires : tie.Need-sar32-requires
-sar32-requires c κs = search needs
-
 cast-result : tie.Need-cast-result
 cast-result c = rw (came w32 (c .sar32), c .sar32 .ensures, toZ-ofZ (c .before .fits .x)) (fits-shr-less w32 w16 16 _ tt (c .before .fits .x))
 
@@ -20,4 +17,4 @@ unfolding extract-h
 returns c = toZ-ofZ (cast-result c) ∙ came w32 (c .sar32) ∙ c .sar32 .ensures ∙ rw (toZ-ofZ (c .before .fits .x))
 
 pub extract-h-spec : {M : Type 1} → statement M
-extract-h-spec = tie.close (tie.spec sar32-requires cast-result returns)
+extract-h-spec = tie.close (tie.spec (λ c κs. search needs) cast-result returns)

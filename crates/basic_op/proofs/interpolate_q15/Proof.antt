@@ -7,15 +7,6 @@ use Rattle.basic_op.specs.Oper32b.{interpolate-q15}
 use Rattle.basic_op.proofs.interpolate_q15.Statement.{statement}
 use Rattle.basic_op.proofs.interpolate_q15.Tie as tie
 
-l-deposit-h-requires : tie.Need-l-deposit-h-requires
-l-deposit-h-requires c κs = search needs
-
-sub-requires : tie.Need-sub-requires
-sub-requires c κs = search needs
-
-l-msu-requires : tie.Need-l-msu-requires
-l-msu-requires c κs = search needs
-
 returns : tie.Need-returns
 unfolding interpolate-q15
 returns c =
@@ -24,4 +15,5 @@ returns c =
 
 pub interpolate-q15-spec : {M : Type 1} → statement M
 interpolate-q15-spec =
-    tie.close (tie.spec l-deposit-h-requires sub-requires l-msu-requires returns)
+    tie.close
+    (tie.spec (λ c κs. search needs) (λ c κs. search needs) (λ c κs. search needs) returns)

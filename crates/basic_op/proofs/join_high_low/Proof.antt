@@ -7,12 +7,6 @@ use Rattle.basic_op.specs.Oper32b.{join-high-low}
 use Rattle.basic_op.proofs.join_high_low.Statement.{statement}
 use Rattle.basic_op.proofs.join_high_low.Tie as tie
 
-l-deposit-h-requires : tie.Need-l-deposit-h-requires
-l-deposit-h-requires c κs = search needs
-
-l-mac-requires : tie.Need-l-mac-requires
-l-mac-requires c κs = search needs
-
 returns : tie.Need-returns
 unfolding join-high-low
 returns c =
@@ -20,4 +14,4 @@ returns c =
     cc (came w32 (c .l-mac), came w32 (c .before .l-deposit-h), toZ-ofZ (s .fits .upper), toZ-ofZ (s .fits .lower))
 
 pub join-high-low-spec : {M : Type 1} → statement M
-join-high-low-spec = tie.close (tie.spec l-deposit-h-requires l-mac-requires returns)
+join-high-low-spec = tie.close (tie.spec (λ c κs. search needs) (λ c κs. search needs) returns)

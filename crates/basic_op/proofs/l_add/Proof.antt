@@ -1,30 +1,19 @@
 -- `basic_op::l_add` meets its contract. Assumes nothing.
 use borrow.Author.Needs.{needs}
 use mir.Syntax.{w32, w64}
-use mir.Facts.{toZ-ofZ, sfits-widen}
+use mir.Facts.{toZ-ofZ}
 use Rattle.basic_op.specs.Ops.{l-add}
 use Rattle.laws.specs.Range.{fits-add}
-use Rattle.laws.specs.Back.{came, keep}
+use Rattle.laws.specs.Back.{came, widens, wide, still}
 use Rattle.basic_op.proofs.l_add.Statement.{statement}
 use Rattle.basic_op.proofs.l_add.Tie as tie
 
-cast-sat32 : tie.Need-cast-sat32
-cast-sat32 c = sfits-widen tt (keep w32 tt (c .fits .a))
-
-cast-sat32-2 : tie.Need-cast-sat32-2
-cast-sat32-2 c = sfits-widen tt (keep w32 tt (c .fits .b))
-
-add-sat32 : tie.Need-add-sat32
-add-sat32 c = fits-add w32 w32 w64 _ _ (keep w64 tt (keep w32 tt (c .fits .a))) (keep w64 tt (keep w32 tt (c .fits .b))) tt
-
-sat32-requires : tie.Need-sat32-requires
-sat32-requires c κs = search needs
+whole : tie.Need-add-sat32
+whole c = fits-add w32 w32 w64 _ _ (still w64 tt (c .fits .a)) (still w64 tt (c .fits .b)) tt
 
 returns : tie.Need-returns
 unfolding l-add
-returns c =
-    let s = c .before in
-    cc (came w32 (c .sat32), toZ-ofZ (s .fits .a), toZ-ofZ (s .fits .b), toZ-ofZ (cast-sat32 s), toZ-ofZ (cast-sat32-2 s), toZ-ofZ (add-sat32 s))
+returns c = cc (came w32 (c .sat32), wide w64 tt (c .before .fits .a), wide w64 tt (c .before .fits .b), toZ-ofZ (whole (c .before)))
 
 pub l-add-spec : {M : Type 1} → statement M
-l-add-spec = tie.close (tie.spec cast-sat32 cast-sat32-2 add-sat32 sat32-requires returns)
+l-add-spec = tie.close (tie.spec (λ c. widens w64 tt (c .fits .a)) (λ c. widens w64 tt (c .fits .b)) whole (λ c κs. search needs) returns)

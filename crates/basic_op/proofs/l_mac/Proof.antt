@@ -7,12 +7,6 @@ use Rattle.laws.specs.Back.{came}
 use Rattle.basic_op.proofs.l_mac.Statement.{statement}
 use Rattle.basic_op.proofs.l_mac.Tie as tie
 
-l-mult-requires : tie.Need-l-mult-requires
-l-mult-requires c κs = search needs
-
-l-add-requires : tie.Need-l-add-requires
-l-add-requires c κs = search needs
-
 returns : tie.Need-returns
 unfolding l-mac
 returns c =
@@ -20,4 +14,4 @@ returns c =
     cc (came w32 (c .l-add), came w32 (c .before .l-mult), toZ-ofZ (s .fits .acc), toZ-ofZ (s .fits .a), toZ-ofZ (s .fits .b))
 
 pub l-mac-spec : {M : Type 1} → statement M
-l-mac-spec = tie.close (tie.spec l-mult-requires l-add-requires returns)
+l-mac-spec = tie.close (tie.spec (λ c κs. search needs) (λ c κs. search needs) returns)

@@ -7,12 +7,6 @@ use Rattle.laws.specs.Back.{came}
 use Rattle.basic_op.proofs.l_msu.Statement.{statement}
 use Rattle.basic_op.proofs.l_msu.Tie as tie
 
-l-mult-requires : tie.Need-l-mult-requires
-l-mult-requires c κs = search needs
-
-l-sub-requires : tie.Need-l-sub-requires
-l-sub-requires c κs = search needs
-
 returns : tie.Need-returns
 unfolding l-msu
 returns c =
@@ -20,4 +14,4 @@ returns c =
     cc (came w32 (c .l-sub), came w32 (c .before .l-mult), toZ-ofZ (s .fits .acc), toZ-ofZ (s .fits .a), toZ-ofZ (s .fits .b))
 
 pub l-msu-spec : {M : Type 1} → statement M
-l-msu-spec = tie.close (tie.spec l-mult-requires l-sub-requires returns)
+l-msu-spec = tie.close (tie.spec (λ c κs. search needs) (λ c κs. search needs) returns)

@@ -2,33 +2,26 @@
 use borrow.Author.Needs.{needs}
 use lib.IntN.{pos}
 use mir.Syntax.{w16, w32, w64}
-use mir.Facts.{toZ-ofZ, sfits-widen, sfits-lit}
+use mir.Facts.{toZ-ofZ, sfits-lit}
 use Rattle.basic_op.specs.Ops.{l-mult-overflow}
 use Rattle.laws.specs.Range.{fits-mul}
-use Rattle.laws.specs.Back.{keep}
+use Rattle.laws.specs.Back.{keep, widens, wide, still}
 use Rattle.basic_op.proofs.l_mult_overflow.Statement.{statement}
 use Rattle.basic_op.proofs.l_mult_overflow.Tie as tie
 
-cast-overflow32 : tie.Need-cast-overflow32
-cast-overflow32 c = sfits-widen tt (keep w16 tt (c .fits .a))
+single : tie.Need-mul-overflow32
+single c = fits-mul w16 w16 w64 _ _ (still w64 tt (c .fits .a)) (still w64 tt (c .fits .b)) tt
 
-cast-overflow32-2 : tie.Need-cast-overflow32-2
-cast-overflow32-2 c = sfits-widen tt (keep w16 tt (c .fits .b))
-
-mul-overflow32 : tie.Need-mul-overflow32
-mul-overflow32 c = fits-mul w16 w16 w64 _ _ (keep w64 tt (keep w16 tt (c .fits .a))) (keep w64 tt (keep w16 tt (c .fits .b))) tt
-
-mul-overflow32-2 : tie.Need-mul-overflow32-2
-mul-overflow32-2 c = fits-mul w16 w32 w64 (pos 2) _ (sfits-lit tt) (keep w64 tt (fits-mul w16 w16 w32 _ _ (keep w64 tt (keep w16 tt (c .fits .a))) (keep w64 tt (keep w16 tt (c .fits .b))) tt)) tt
-
-overflow32-requires : tie.Need-overflow32-requires
-overflow32-requires c κs = search needs
+double : tie.Need-mul-overflow32-2
+double c = fits-mul w16 w32 w64 (pos 2) _ (sfits-lit tt) (keep w64 tt (fits-mul w16 w16 w32 _ _ (still w64 tt (c .fits .a)) (still w64 tt (c .fits .b)) tt)) tt
 
 returns : tie.Need-returns
 unfolding l-mult-overflow
 returns c =
     let s = c .before in
-    cc (toZ-ofZ (s .fits .a), toZ-ofZ (s .fits .b), toZ-ofZ (cast-overflow32 s), toZ-ofZ (cast-overflow32-2 s), toZ-ofZ (mul-overflow32 s), toZ-ofZ (mul-overflow32-2 s))
+    cc (wide w64 tt (s .fits .a), wide w64 tt (s .fits .b), toZ-ofZ (single s), toZ-ofZ (double s))
 
 pub l-mult-overflow-spec : {M : Type 1} → statement M
-l-mult-overflow-spec = tie.close (tie.spec cast-overflow32 cast-overflow32-2 mul-overflow32 mul-overflow32-2 overflow32-requires returns)
+l-mult-overflow-spec =
+    tie.close
+    (tie.spec (λ c. widens w64 tt (c .fits .a)) (λ c. widens w64 tt (c .fits .b)) single double (λ c κs. search needs) returns)

@@ -9,23 +9,11 @@ use Rattle.laws.specs.Back.{came}
 use Rattle.basic_op.proofs.l_shr.Statement.{statement}
 use Rattle.basic_op.proofs.l_shr.Tie as tie
 
-count-requires : tie.Need-count-requires
-count-requires c κs = search needs
-
-l-shl-by-requires : tie.Need-l-shl-by-requires
-l-shl-by-requires c κs = search needs
-
 returns : tie.Need-returns
 unfolding l-shr
 returns c =
     let s = c .before .before .before in
     (cc (came w32 (c .l-shl-by), toZ-ofZ (s .fits .x), toZ-ofZ (s .fits .n))) ∙ by-neg (toZ-ofZ (s .fits .n)) _ _ (c .before .before .if1 .taken)
-
-count-requires-2 : tie.Need-count-requires-2
-count-requires-2 c κs = search needs
-
-sar32-requires : tie.Need-sar32-requires
-sar32-requires c κs = search needs
 
 returns-2 : tie.Need-returns-2
 unfolding l-shr
@@ -34,4 +22,4 @@ returns-2 c =
     (cc (came w32 (c .sar32), toZ-ofZ (s .fits .x), toZ-ofZ (s .fits .n))) ∙ by-pos (toZ-ofZ (s .fits .n)) _ _ (c .before .before .if1 .left)
 
 pub l-shr-spec : {M : Type 1} → statement M
-l-shr-spec = tie.close (tie.spec count-requires l-shl-by-requires returns count-requires-2 sar32-requires returns-2)
+l-shr-spec = tie.close (tie.spec (λ c κs. search needs) (λ c κs. search needs) returns (λ c κs. search needs) (λ c κs. search needs) returns-2)

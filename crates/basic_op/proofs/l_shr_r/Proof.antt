@@ -3,19 +3,13 @@ use mathlib.Core.Path.{_∙_, ap}
 use borrow.Author.Needs.{needs}
 use lib.IntN.{pos, natAbs}
 use mir.Syntax.{w16, w32, w64}
-use mir.Facts.{toZ-ofZ, sfits-widen, sfits-lit}
+use mir.Facts.{toZ-ofZ, sfits-lit}
 use Rattle.basic_op.specs.Ops.{l-shr-r, rounded}
 use Rattle.laws.specs.Range.{fits-add, fits-half}
 use Rattle.basic_op.specs.Laws.{by-pos, by-neg, rounded-zero, rounded-far, rounded-in}
-use Rattle.laws.specs.Back.{came, fits-came, keep}
+use Rattle.laws.specs.Back.{came, fits-came, widens, wide, still}
 use Rattle.basic_op.proofs.l_shr_r.Statement.{statement}
 use Rattle.basic_op.proofs.l_shr_r.Tie as tie
-
-count-requires : tie.Need-count-requires
-count-requires c κs = search needs
-
-l-shl-by-requires : tie.Need-l-shl-by-requires
-l-shl-by-requires c κs = search needs
 
 returns : tie.Need-returns
 unfolding l-shr-r
@@ -37,25 +31,13 @@ returns-3 c =
     let x = s .args .x in
     rounded-far x _ (c .if3 .taken) ∙ ap (rounded x) (c .before .before .before .count .ensures ∙ ap natAbs (toZ-ofZ (s .fits .n))) ∙ by-pos (toZ-ofZ (s .fits .n)) _ _ (c .before .before .if1 .left)
 
-sub-sar32 : tie.Need-sub-sar32
-sub-sar32 c = search needs
-
-sar32-requires : tie.Need-sar32-requires
-sar32-requires c κs = search needs
-
-cast-sar64 : tie.Need-cast-sar64
-cast-sar64 c = sfits-widen tt (keep w32 tt (fits-came w32 (c .sar32)))
-
 add-sar64 : tie.Need-add-sar64
-add-sar64 c = fits-add w32 w16 w64 _ (pos 1) (keep w64 tt (keep w32 tt (fits-came w32 (c .sar32)))) (sfits-lit tt) tt
-
-sar64-requires : tie.Need-sar64-requires
-sar64-requires c κs = search needs
+add-sar64 c = fits-add w32 w16 w64 _ (pos 1) (still w64 tt (fits-came w32 (c .sar32))) (sfits-lit tt) tt
 
 cast-result : tie.Need-cast-result
 cast-result c =
     rw (came w64 (c .sar64), c .sar64 .ensures, toZ-ofZ (add-sar64 (c .before)))
-    (fits-half _ (keep w64 tt (keep w32 tt (fits-came w32 (c .before .sar32)))))
+    (fits-half _ (still w64 tt (fits-came w32 (c .before .sar32))))
 
 returns-4 : tie.Need-returns-4
 unfolding l-shr-r
@@ -63,9 +45,12 @@ returns-4 c =
     let b = c .before in
     let s = b .before .before .before .before .before in
     let x = s .args .x in
-    (cc (toZ-ofZ (cast-result c), came w64 (c .sar64), toZ-ofZ (add-sar64 b), toZ-ofZ (cast-sar64 b), came w32 (b .sar32), toZ-ofZ (s .fits .x)))
+    (cc (toZ-ofZ (cast-result c), came w64 (c .sar64), toZ-ofZ (add-sar64 b), wide w64 tt (fits-came w32 (b .sar32)), toZ-ofZ (s .fits .x)))
     ∙ rounded-in x _ (b .before .before .if2 .left) (b .before .if3 .left)
     ∙ ap (rounded x) (b .before .before .before .before .count .ensures ∙ ap natAbs (toZ-ofZ (s .fits .n))) ∙ by-pos (toZ-ofZ (s .fits .n)) _ _ (b .before .before .before .if1 .left)
 
 pub l-shr-r-spec : {M : Type 1} → statement M
-l-shr-r-spec = tie.close (tie.spec count-requires l-shl-by-requires returns returns-2 returns-3 sub-sar32 sar32-requires cast-sar64 add-sar64 sar64-requires cast-result returns-4)
+l-shr-r-spec =
+    tie.close
+    (tie.spec (λ c κs. search needs) (λ c κs. search needs) returns returns-2 returns-3 (λ c. search needs) (λ c κs. search needs) (λ c. widens w64 tt (fits-came w32 (c .sar32)))
+    add-sar64 (λ c κs. search needs) cast-result returns-4)

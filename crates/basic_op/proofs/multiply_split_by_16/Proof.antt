@@ -7,15 +7,6 @@ use Rattle.basic_op.specs.Oper32b.{multiply-split-by-16}
 use Rattle.basic_op.proofs.multiply_split_by_16.Statement.{statement}
 use Rattle.basic_op.proofs.multiply_split_by_16.Tie as tie
 
-l-mult-requires : tie.Need-l-mult-requires
-l-mult-requires c κs = search needs
-
-mult-requires : tie.Need-mult-requires
-mult-requires c κs = search needs
-
-l-mac-requires : tie.Need-l-mac-requires
-l-mac-requires c κs = search needs
-
 returns : tie.Need-returns
 unfolding multiply-split-by-16
 returns c =
@@ -24,4 +15,5 @@ returns c =
 
 pub multiply-split-by-16-spec : {M : Type 1} → statement M
 multiply-split-by-16-spec =
-    tie.close (tie.spec l-mult-requires mult-requires l-mac-requires returns)
+    tie.close
+    (tie.spec (λ c κs. search needs) (λ c κs. search needs) (λ c κs. search needs) returns)

@@ -19,9 +19,6 @@ returns : tie.Need-returns
 unfolding norm-l
 returns c = let h = c .if1 .taken in ap norm-l (ap (toZ w32) (sym h) ∙ toZ-ofZ (c .before .fits .x))
 
-magnitude-requires : tie.Need-magnitude-requires
-magnitude-requires c κs = search needs
-
 sub-result : tie.Need-sub-result
 sub-result c = some-lead _ (rw (c .magnitude .ensures, toZ-ofZ (c .before .before .fits .x)) (c .before .before .fits .x .sfits))
 
@@ -36,4 +33,4 @@ returns-2 c =
     ∙ sym (norm-is (s .args .x) (λ e. c .before .if1 .left (ap (ofZ w32) e)) (s .fits .x .sfits))
 
 pub norm-l-spec : {M : Type 1} → statement M
-norm-l-spec = tie.close (tie.spec returns magnitude-requires sub-result cast-result returns-2)
+norm-l-spec = tie.close (tie.spec returns (λ c κs. search needs) sub-result cast-result returns-2)

@@ -5,14 +5,8 @@ use Rattle.laws.specs.Range.{one-shl}
 use Rattle.basic_op.proofs.pow32.Statement.{statement}
 use Rattle.basic_op.proofs.pow32.Tie as tie
 
-cast-result : tie.Need-cast-result
-cast-result c = search needs
-
-shl-result : tie.Need-shl-result
-shl-result c = search needs
-
 returns : tie.Need-returns
 returns c = one-shl w32 (c .args .n) (c .pre)
 
 pub pow32-spec : {M : Type 1} → statement M
-pow32-spec = tie.close (tie.spec cast-result shl-result returns)
+pow32-spec = tie.close (tie.spec (λ c. search needs) (λ c. search needs) returns)

@@ -7,12 +7,6 @@ use Rattle.laws.specs.Back.{came}
 use Rattle.basic_op.proofs.round.Statement.{statement}
 use Rattle.basic_op.proofs.round.Tie as tie
 
-l-add-requires : tie.Need-l-add-requires
-l-add-requires c κs = search needs
-
-extract-h-requires : tie.Need-extract-h-requires
-extract-h-requires c κs = search needs
-
 returns : tie.Need-returns
 unfolding round
 returns c =
@@ -20,4 +14,4 @@ returns c =
     cc (came w16 (c .extract-h), came w32 (c .before .l-add), toZ-ofZ (s .fits .x))
 
 pub round-spec : {M : Type 1} → statement M
-round-spec = tie.close (tie.spec l-add-requires extract-h-requires returns)
+round-spec = tie.close (tie.spec (λ c κs. search needs) (λ c κs. search needs) returns)

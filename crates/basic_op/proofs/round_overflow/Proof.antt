@@ -2,27 +2,19 @@
 use borrow.Author.Needs.{needs}
 use lib.IntN.{pos}
 use mir.Syntax.{w32, w64}
-use mir.Facts.{toZ-ofZ, sfits-widen, sfits-lit}
+use mir.Facts.{toZ-ofZ, sfits-lit}
 use Rattle.basic_op.specs.Ops.{round-overflow}
 use Rattle.laws.specs.Range.{fits-add}
-use Rattle.laws.specs.Back.{keep}
+use Rattle.laws.specs.Back.{widens, wide, still}
 use Rattle.basic_op.proofs.round_overflow.Statement.{statement}
 use Rattle.basic_op.proofs.round_overflow.Tie as tie
 
-cast-overflow32 : tie.Need-cast-overflow32
-cast-overflow32 c = sfits-widen tt (keep w32 tt (c .fits .x))
-
-add-overflow32 : tie.Need-add-overflow32
-add-overflow32 c = fits-add w32 w32 w64 _ (pos 32768) (keep w64 tt (keep w32 tt (c .fits .x))) (sfits-lit tt) tt
-
-overflow32-requires : tie.Need-overflow32-requires
-overflow32-requires c κs = search needs
+whole : tie.Need-add-overflow32
+whole c = fits-add w32 w32 w64 _ (pos 32768) (still w64 tt (c .fits .x)) (sfits-lit tt) tt
 
 returns : tie.Need-returns
 unfolding round-overflow
-returns c =
-    let s = c .before in
-    cc (toZ-ofZ (s .fits .x), toZ-ofZ (cast-overflow32 s), toZ-ofZ (add-overflow32 s))
+returns c = cc (wide w64 tt (c .before .fits .x), toZ-ofZ (whole (c .before)))
 
 pub round-overflow-spec : {M : Type 1} → statement M
-round-overflow-spec = tie.close (tie.spec cast-overflow32 add-overflow32 overflow32-requires returns)
+round-overflow-spec = tie.close (tie.spec (λ c. widens w64 tt (c .fits .x)) whole (λ c κs. search needs) returns)

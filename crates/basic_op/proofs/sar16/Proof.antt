@@ -11,14 +11,8 @@ use Rattle.basic_op.proofs.sar16.Tie as tie
 returns : tie.Need-returns
 returns c = back-shr w16 _ _ (c .before .fits .a) ∙ shr-far (c .before .args .a) 15 (c .before .args .n) (c .before .fits .a .sfits) (omega arith)
 
-cast-result : tie.Need-cast-result
-cast-result c = search needs
-
-shr-result : tie.Need-shr-result
-shr-result c = search needs
-
 returns-2 : tie.Need-returns-2
 returns-2 c = back-shr w16 _ _ (c .before .fits .a)
 
 pub sar16-spec : {M : Type 1} → statement M
-sar16-spec = tie.close (tie.spec returns cast-result shr-result returns-2)
+sar16-spec = tie.close (tie.spec returns (λ c. search needs) (λ c. search needs) returns-2)

@@ -11,14 +11,8 @@ use Rattle.basic_op.proofs.sar32.Tie as tie
 returns : tie.Need-returns
 returns c = back-shr w32 _ _ (c .before .fits .x) ∙ shr-far (c .before .args .x) 31 (c .before .args .n) (c .before .fits .x .sfits) (omega arith)
 
-cast-result : tie.Need-cast-result
-cast-result c = search needs
-
-shr-result : tie.Need-shr-result
-shr-result c = search needs
-
 returns-2 : tie.Need-returns-2
 returns-2 c = back-shr w32 _ _ (c .before .fits .x)
 
 pub sar32-spec : {M : Type 1} → statement M
-sar32-spec = tie.close (tie.spec returns cast-result shr-result returns-2)
+sar32-spec = tie.close (tie.spec returns (λ c. search needs) (λ c. search needs) returns-2)

@@ -9,23 +9,11 @@ use Rattle.laws.specs.Back.{came}
 use Rattle.basic_op.proofs.shl.Statement.{statement}
 use Rattle.basic_op.proofs.shl.Tie as tie
 
-count-requires : tie.Need-count-requires
-count-requires c κs = search needs
-
-sar16-requires : tie.Need-sar16-requires
-sar16-requires c κs = search needs
-
 returns : tie.Need-returns
 unfolding shl
 returns c =
     let s = c .before .before .before in
     (cc (came w16 (c .sar16), toZ-ofZ (s .fits .a), toZ-ofZ (s .fits .n))) ∙ by-neg (toZ-ofZ (s .fits .n)) _ _ (c .before .before .if1 .taken)
-
-count-requires-2 : tie.Need-count-requires-2
-count-requires-2 c κs = search needs
-
-shl-by-requires : tie.Need-shl-by-requires
-shl-by-requires c κs = search needs
 
 returns-2 : tie.Need-returns-2
 unfolding shl
@@ -34,4 +22,4 @@ returns-2 c =
     (cc (came w16 (c .shl-by), toZ-ofZ (s .fits .a), toZ-ofZ (s .fits .n))) ∙ by-pos (toZ-ofZ (s .fits .n)) _ _ (c .before .before .if1 .left)
 
 pub shl-spec : {M : Type 1} → statement M
-shl-spec = tie.close (tie.spec count-requires sar16-requires returns count-requires-2 shl-by-requires returns-2)
+shl-spec = tie.close (tie.spec (λ c κs. search needs) (λ c κs. search needs) returns (λ c κs. search needs) (λ c κs. search needs) returns-2)

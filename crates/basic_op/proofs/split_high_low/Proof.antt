@@ -7,18 +7,6 @@ use Rattle.basic_op.specs.Oper32b.{split-high-low}
 use Rattle.basic_op.proofs.split_high_low.Statement.{statement}
 use Rattle.basic_op.proofs.split_high_low.Tie as tie
 
-extract-h-requires : tie.Need-extract-h-requires
-extract-h-requires c κs = search needs
-
-sar32-requires : tie.Need-sar32-requires
-sar32-requires c κs = search needs
-
-l-msu-requires : tie.Need-l-msu-requires
-l-msu-requires c κs = search needs
-
-extract-l-requires : tie.Need-extract-l-requires
-extract-l-requires c κs = search needs
-
 returns : tie.Need-returns
 unfolding split-high-low
 returns c =
@@ -28,4 +16,4 @@ returns c =
 pub split-high-low-spec : {M : Type 1} → statement M
 split-high-low-spec =
     tie.close
-    (tie.spec extract-h-requires sar32-requires l-msu-requires extract-l-requires returns)
+    (tie.spec (λ c κs. search needs) (λ c κs. search needs) (λ c κs. search needs) (λ c κs. search needs) returns)

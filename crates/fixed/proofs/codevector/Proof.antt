@@ -8,7 +8,7 @@ use lib.ListN.{set, replicate}
 use mir.Syntax.{w16}
 use mir.Val.{toZ}
 use mir.Facts.{toZ-ofZ}
-use Rattle.laws.specs.Loops.{steps, steps-none, steps-turn, steps-end}
+use Rattle.laws.specs.Loops.{steps, steps-none, steps-turn, ended-from}
 use Rattle.laws.specs.Back.{came}
 use Rattle.fixed.specs.Fixed.{position, pulse, codevector}
 use Rattle.fixed.specs.Laws.{position-lt, codevector-is}
@@ -39,7 +39,7 @@ loop-again c = (
 
 returns : tie.Need-returns Inv-loop μ-loop
 unfolding codevector
-returns c = steps-end _ _ 4 _ _ (c .before .loop .inv .1) (omega arith) ∙ codevector-is _ _ (toZ-ofZ (c .before .before .fits .positive))
+returns c = ended-from (steps _) 4 (c .before .loop .inv .1) (omega arith) ∙ codevector-is _ _ (toZ-ofZ (c .before .before .fits .positive))
 
 pub codevector-spec : {M : Type 1} → statement M
 codevector-spec =

@@ -1,5 +1,4 @@
 -- `gain::conceal_pitch_gain` meets its contract. Assumes nothing.
-use mathlib.Core.Path.{_∙_}
 use borrow.Author.Needs.{needs}
 use mir.Syntax.{w16}
 use mir.Facts.{toZ-ofZ}
@@ -10,16 +9,7 @@ use Rattle.gain.proofs.conceal_pitch_gain.Tie as tie
 
 returns : tie.Need-returns
 unfolding conceal-pitch-gain
-returns c =
-    let c1 = c .before in
-    let c2 = c1 .before in
-    let c3 = c2 .before in
-    rw (
-      came w16 (c .lesser) ∙ c .lesser .ensures,
-      came w16 (c1 .mult) ∙ c1 .mult .ensures,
-      came w16 (c2 .scalars) ∙ c2 .scalars .ensures,
-      toZ-ofZ (c3 .fits .gp),
-    )
+returns c = cc (came w16 (c .lesser), came w16 (c .before .mult), came w16 (c .before .before .scalars), toZ-ofZ (c .before .before .before .fits .gp))
 
 pub conceal-pitch-gain-spec : {M : Type 1} → statement M
 conceal-pitch-gain-spec = tie.close (tie.spec (λ c κs. search needs) (λ c κs. search needs) (λ c κs. search needs) returns)

@@ -8,7 +8,7 @@ use mir.Syntax.{w16, w32}
 use mir.Val.{toZ}
 use mir.Facts.{toZ-ofZ}
 use Rattle.laws.specs.Lists.{at}
-use Rattle.laws.specs.Loops.{steps, steps-none, steps-turn, steps-end}
+use Rattle.laws.specs.Loops.{steps, steps-none, steps-turn, ended-from}
 use Rattle.laws.specs.Back.{came, via}
 use Rattle.basic_op.specs.Ops.{l-add}
 use Rattle.gain.specs.Gain.{error-sum}
@@ -34,7 +34,7 @@ loop-again c = (
 
 returns : tie.Need-returns Inv-loop μ-loop
 unfolding error-sum
-returns c = steps-end _ _ 4 _ _ (c .before .loop .inv .1) (omega arith)
+returns c = ended-from (steps _) 4 (c .before .loop .inv .1) (omega arith)
 
 pub error-sum-spec : {M : Type 1} → statement M
 error-sum-spec =

@@ -1,5 +1,4 @@
 -- `gain::pitch_gain` meets its contract. Assumes nothing.
-use mathlib.Core.Path.{_∙_}
 use borrow.Author.Needs.{needs}
 use mir.Syntax.{w16}
 use Rattle.laws.specs.Back.{came}
@@ -7,12 +6,7 @@ use Rattle.gain.proofs.pitch_gain.Statement.{statement}
 use Rattle.gain.proofs.pitch_gain.Tie as tie
 
 returns : tie.Need-returns
-returns c =
-    rw (
-      came w16 (c .add) ∙ c .add .ensures,
-      came w16 (c .before .gain-gb) ∙ c .before .gain-gb .ensures,
-      came w16 (c .before .before .gain-ga) ∙ c .before .before .gain-ga .ensures,
-    )
+returns c = cc (came w16 (c .add), came w16 (c .before .gain-gb), came w16 (c .before .before .gain-ga))
 
 pub pitch-gain-spec : {M : Type 1} → statement M
 pitch-gain-spec = tie.close (tie.spec (λ c κs. search needs) (λ c κs. search needs) (λ c κs. search needs) returns)

@@ -7,7 +7,7 @@ use mir.Syntax.{w16, w32}
 use mir.Val.{toZ}
 use mir.Facts.{toZ-ofZ}
 use Rattle.laws.specs.Lists.{at}
-use Rattle.laws.specs.Loops.{steps, steps-none, steps-turn, steps-end}
+use Rattle.laws.specs.Loops.{steps, steps-none, steps-turn, ended-from}
 use Rattle.laws.specs.Back.{via2}
 use Rattle.basic_op.specs.Ops.{l-mac}
 use Rattle.gain.specs.Gain.{prediction}
@@ -30,7 +30,7 @@ loop-again c = (
 returns : tie.Need-returns Inv-loop μ-loop
 unfolding prediction
 returns c =
-    steps-end _ _ 4 _ _ (c .before .loop .inv .1) (omega arith)
+    ended-from (steps _) 4 (c .before .loop .inv .1) (omega arith)
     ∙ rw (toZ-ofZ (c .before .before .before .fits .l), c .before .before .gain-prediction-coefficients .ensures)
 
 pub prediction-spec : {M : Type 1} → statement M

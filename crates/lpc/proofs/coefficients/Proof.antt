@@ -7,66 +7,26 @@ use borrow.Author.Needs.{needs}
 use Rattle.lpc.proofs.coefficients.Statement.{statement}
 use Rattle.lpc.proofs.coefficients.Tie as tie
 
-half-sum-requires : tie.Need-half-sum-requires
-half-sum-requires c κs = search needs
-
-half-sum-requires-2 : tie.Need-half-sum-requires-2
-half-sum-requires-2 c κs = search needs
-
-half-sum-requires-3 : tie.Need-half-sum-requires-3
-half-sum-requires-3 c κs = search needs
-
-half-sum-requires-4 : tie.Need-half-sum-requires-4
-half-sum-requires-4 c κs = search needs
-
-half-sum-requires-5 : tie.Need-half-sum-requires-5
-half-sum-requires-5 c κs = search needs
-
-half-difference-requires : tie.Need-half-difference-requires
-half-difference-requires c κs = search needs
-
-half-difference-requires-2 : tie.Need-half-difference-requires-2
-half-difference-requires-2 c κs = search needs
-
-half-difference-requires-3 : tie.Need-half-difference-requires-3
-half-difference-requires-3 c κs = search needs
-
-half-difference-requires-4 : tie.Need-half-difference-requires-4
-half-difference-requires-4 c κs = search needs
-
-half-difference-requires-5 : tie.Need-half-difference-requires-5
-half-difference-requires-5 c κs = search needs
-
 returns : tie.Need-returns
 unfolding coefficient tab
 returns c =
     let d = c .before .before .before .before in
     let s = d .before in
-    rw (
+    cc (
       came w16 (c .half-difference5),
-      c .half-difference5 .ensures,
       came w16 (c .before .half-difference4),
-      c .before .half-difference4 .ensures,
       came w16 (c .before .before .half-difference3),
-      c .before .before .half-difference3 .ensures,
       came w16 (c .before .before .before .half-difference2),
-      c .before .before .before .half-difference2 .ensures,
       came w16 (d .half-difference),
-      d .half-difference .ensures,
       came w16 (s .half-sum5),
-      s .half-sum5 .ensures,
       came w16 (s .before .half-sum4),
-      s .before .half-sum4 .ensures,
       came w16 (s .before .before .half-sum3),
-      s .before .before .half-sum3 .ensures,
       came w16 (s .before .before .before .half-sum2),
-      s .before .before .before .half-sum2 .ensures,
       came w16 (s .before .before .before .before .half-sum),
-      s .before .before .before .before .half-sum .ensures,
     )
 
 pub coefficients-spec : {M : Type 1} → statement M
 coefficients-spec =
     tie.close
-    (tie.spec half-sum-requires half-sum-requires-2 half-sum-requires-3 half-sum-requires-4 half-sum-requires-5 half-difference-requires
-    half-difference-requires-2 half-difference-requires-3 half-difference-requires-4 half-difference-requires-5 returns)
+    (tie.spec (λ c κs. search needs) (λ c κs. search needs) (λ c κs. search needs) (λ c κs. search needs) (λ c κs. search needs)
+    (λ c κs. search needs) (λ c κs. search needs) (λ c κs. search needs) (λ c κs. search needs) (λ c κs. search needs) returns)

@@ -7,24 +7,6 @@ use borrow.Author.Needs.{needs}
 use Rattle.lpc.proofs.f2_prime.Statement.{statement}
 use Rattle.lpc.proofs.f2_prime.Tie as tie
 
-mul-l-sub : tie.Need-mul-l-sub
-mul-l-sub c = search needs
-
-array-copy-out-l-sub : tie.Need-array-copy-out-l-sub
-array-copy-out-l-sub c = search needs
-
-sub-l-sub : tie.Need-sub-l-sub
-sub-l-sub c = search needs
-
-mul-l-sub-2 : tie.Need-mul-l-sub-2
-mul-l-sub-2 c = search needs
-
-array-copy-out-l-sub-2 : tie.Need-array-copy-out-l-sub-2
-array-copy-out-l-sub-2 c = search needs
-
-l-sub-requires : tie.Need-l-sub-requires
-l-sub-requires c κs = search needs
-
 returns : tie.Need-returns
 unfolding f2-prime
 returns c = via2 w32 w32 w32 l-sub _ _ _ (c .before .before .l-sub-arg .given) (c .before .l-sub-arg2 .given) (c .l-sub .ok) (c .l-sub .ensures)
@@ -32,4 +14,4 @@ returns c = via2 w32 w32 w32 l-sub _ _ _ (c .before .before .l-sub-arg .given) (
 pub f2-prime-spec : {M : Type 1} → statement M
 f2-prime-spec =
     tie.close
-    (tie.spec mul-l-sub array-copy-out-l-sub sub-l-sub mul-l-sub-2 array-copy-out-l-sub-2 l-sub-requires returns)
+    (tie.spec (λ c. search needs) (λ c. search needs) (λ c. search needs) (λ c. search needs) (λ c. search needs) (λ c κs. search needs) returns)

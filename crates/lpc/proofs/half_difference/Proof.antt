@@ -1,30 +1,16 @@
 -- `lpc::half_difference` meets its contract: equation (26) on what equation (25) gives. Assumes nothing.
-use mathlib.Core.Path.{_∙_}
 use mir.Syntax.{w16, w32}
 use Rattle.laws.specs.Back.{came}
 use borrow.Author.Needs.{needs}
 use Rattle.lpc.proofs.half_difference.Statement.{statement}
 use Rattle.lpc.proofs.half_difference.Tie as tie
 
-f1-prime-requires : tie.Need-f1-prime-requires
-f1-prime-requires c κs = search needs
-
-f2-prime-requires : tie.Need-f2-prime-requires
-f2-prime-requires c κs = search needs
-
-l-sub-requires : tie.Need-l-sub-requires
-l-sub-requires c κs = search needs
-
-half-q12-requires : tie.Need-half-q12-requires
-half-q12-requires c κs = search needs
-
 returns : tie.Need-returns
 returns c =
     let p = c .before .before in
-    came w16 (c .half-q12) ∙ c .half-q12 .ensures
-    ∙ rw (came w32 (c .before .l-sub), c .before .l-sub .ensures, came w32 (p .f2-prime), p .f2-prime .ensures, came w32 (p .before .f1-prime), p .before .f1-prime .ensures)
+    cc (came w16 (c .half-q12), came w32 (c .before .l-sub), came w32 (p .f2-prime), came w32 (p .before .f1-prime))
 
 pub half-difference-spec : {M : Type 1} → statement M
 half-difference-spec =
     tie.close
-    (tie.spec f1-prime-requires f2-prime-requires l-sub-requires half-q12-requires returns)
+    (tie.spec (λ c κs. search needs) (λ c κs. search needs) (λ c κs. search needs) (λ c κs. search needs) returns)

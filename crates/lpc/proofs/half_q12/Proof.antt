@@ -1,5 +1,4 @@
 -- `lpc::half_q12` meets its contract: a rounded shift and its lower 16 bits. Assumes nothing.
-use mathlib.Core.Path.{_∙_}
 use mir.Syntax.{w16, w32}
 use mir.Facts.{toZ-ofZ}
 use Rattle.laws.specs.Back.{came}
@@ -8,17 +7,9 @@ use borrow.Author.Needs.{needs}
 use Rattle.lpc.proofs.half_q12.Statement.{statement}
 use Rattle.lpc.proofs.half_q12.Tie as tie
 
-l-shr-r-requires : tie.Need-l-shr-r-requires
-l-shr-r-requires c κs = search needs
-
-extract-l-requires : tie.Need-extract-l-requires
-extract-l-requires c κs = search needs
-
 returns : tie.Need-returns
 unfolding half-q12
-returns c =
-    came w16 (c .extract-l) ∙ c .extract-l .ensures
-    ∙ rw (came w32 (c .before .l-shr-r), c .before .l-shr-r .ensures, toZ-ofZ (c .before .before .fits .x))
+returns c = cc (came w16 (c .extract-l), came w32 (c .before .l-shr-r), toZ-ofZ (c .before .before .fits .x))
 
 pub half-q12-spec : {M : Type 1} → statement M
-half-q12-spec = tie.close (tie.spec l-shr-r-requires extract-l-requires returns)
+half-q12-spec = tie.close (tie.spec (λ c κs. search needs) (λ c κs. search needs) returns)

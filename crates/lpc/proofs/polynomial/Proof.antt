@@ -13,9 +13,6 @@ use borrow.Author.Needs.{needs}
 use Rattle.lpc.proofs.polynomial.Statement.{statement}
 use Rattle.lpc.proofs.polynomial.Tie as tie
 
-small-top-requires : tie.Need-small-top-requires
-small-top-requires c κs = search needs
-
 a1-small : (c : tie.After-small-top) → mag (toZ w32 (ofZ w32 (c .small-top .result))) ≤ 2 * 16777216 + 16
 a1-small c = rw (came w32 (c .small-top)) (omega (arith, c .small-top .ensures .1))
 
@@ -115,6 +112,6 @@ returns c =
 pub polynomial-spec : {M : Type 1} → statement M
 polynomial-spec =
     tie.close
-    (tie.spec small-top-requires small-step-requires small-top-requires-2 small-step-requires-2 small-step-requires-3 small-top-requires-3
+    (tie.spec (λ c κs. search needs) small-step-requires small-top-requires-2 small-step-requires-2 small-step-requires-3 small-top-requires-3
     small-step-requires-4 small-step-requires-5 small-step-requires-6 small-top-requires-4 small-step-requires-7 small-step-requires-8
     small-step-requires-9 step-requires top-requires returns)

@@ -5,19 +5,16 @@ use lib.Dec.{lit<, lit≤}
 use lib.IntN.{pos, _-ℤ_, _*ℤ_}
 use mir.Syntax.{w32, w64}
 use mir.Val.{toZ, ofZ}
-use mir.Facts.{toZ-ofZ, sfits-widen}
+use mir.Facts.{toZ-ofZ}
 use Rattle.laws.specs.Range.{fits-scale}
-use Rattle.laws.specs.Back.{came, keep}
+use Rattle.laws.specs.Back.{came, widens, wide, still}
 use Rattle.basic_op.specs.Oper32b.{multiply-32-by-16}
 use Rattle.lpc.specs.Small.{top-small, top-plain}
 use Rattle.lpc.proofs.small_top.Statement.{statement}
 use Rattle.lpc.proofs.small_top.Tie as tie
 
-cast-result : tie.Need-cast-result
-cast-result c = sfits-widen tt (keep w32 tt (c .fits .older))
-
 mul-result : tie.Need-mul-result
-mul-result c = fits-scale w32 w64 _ 2 (keep w64 tt (keep w32 tt (c .fits .older))) (lit< tt) (lit≤ tt)
+mul-result c = fits-scale w32 w64 _ 2 (still w64 tt (c .fits .older)) (lit< tt) (lit≤ tt)
 
 twice-product-requires : tie.Need-twice-product-requires
 twice-product-requires c κs = rw (toZ-ofZ (c .fits .previous)) (omega (arith, c .pre))
@@ -27,7 +24,7 @@ difference : (c : tie.After-twice-product)
     ≡ c .before .args .older *ℤ pos 2 -ℤ multiply-32-by-16 (c .before .args .previous) (c .before .args .q) *ℤ pos 2
 difference c =
     let s = c .before in
-    rw (toZ-ofZ (mul-result s), toZ-ofZ (cast-result s), toZ-ofZ (s .fits .older), came w64 (c .twice-product), c .twice-product .ensures, toZ-ofZ (s .fits .previous), toZ-ofZ (s .fits .q))
+    rw (toZ-ofZ (mul-result s), wide w64 tt (s .fits .older), came w64 (c .twice-product), c .twice-product .ensures, toZ-ofZ (s .fits .previous), toZ-ofZ (s .fits .q))
 
 sub-result : tie.Need-sub-result
 sub-result c =
@@ -48,4 +45,4 @@ returns c =
 pub small-top-spec : {M : Type 1} → statement M
 small-top-spec =
     tie.close
-    (tie.spec cast-result mul-result twice-product-requires sub-result cast-result-2 returns)
+    (tie.spec (λ c. widens w64 tt (c .fits .older)) mul-result twice-product-requires sub-result cast-result-2 returns)

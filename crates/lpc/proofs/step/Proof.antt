@@ -1,5 +1,4 @@
 -- `lpc::step` meets its contract: operators in a row, after the doubled product. Assumes nothing.
-use mathlib.Core.Path.{_∙_}
 use mir.Syntax.{w32, w64}
 use mir.Facts.{toZ-ofZ}
 use Rattle.laws.specs.Back.{came}
@@ -10,31 +9,15 @@ use borrow.Author.Needs.{needs}
 use Rattle.lpc.proofs.step.Statement.{statement}
 use Rattle.lpc.proofs.step.Tie as tie
 
-twice-product-requires : tie.Need-twice-product-requires
-twice-product-requires c κs = search needs
-
-sat32-requires : tie.Need-sat32-requires
-sat32-requires c κs = search needs
-
-l-sub-requires : tie.Need-l-sub-requires
-l-sub-requires c κs = search needs
-
-l-add-requires : tie.Need-l-add-requires
-l-add-requires c κs = search needs
-
 returns : tie.Need-returns
 unfolding step
 returns c =
-    let m = c .before .before .before in
-    let s = m .before in
-    came w32 (c .l-add) ∙ c .l-add .ensures
-    ∙ rw (
+    let s = c .before .before .before .before in
+    cc (
+      came w32 (c .l-add),
       came w32 (c .before .l-sub),
-      c .before .l-sub .ensures,
       came w32 (c .before .before .sat32),
-      c .before .before .sat32 .ensures,
-      came w64 (m .twice-product),
-      m .twice-product .ensures,
+      came w64 (c .before .before .before .twice-product),
       toZ-ofZ (s .fits .previous),
       toZ-ofZ (s .fits .q),
       toZ-ofZ (s .fits .same),
@@ -45,4 +28,4 @@ returns c =
 pub step-spec : {M : Type 1} → statement M
 step-spec =
     tie.close
-    (tie.spec twice-product-requires sat32-requires l-sub-requires l-add-requires returns)
+    (tie.spec (λ c κs. search needs) (λ c κs. search needs) (λ c κs. search needs) (λ c κs. search needs) returns)

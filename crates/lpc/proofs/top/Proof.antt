@@ -1,5 +1,4 @@
 -- `lpc::top` meets its contract: operators in a row, after the doubled product. Assumes nothing.
-use mathlib.Core.Path.{_∙_}
 use mir.Syntax.{w32, w64}
 use mir.Facts.{toZ-ofZ}
 use Rattle.laws.specs.Back.{came}
@@ -10,31 +9,15 @@ use borrow.Author.Needs.{needs}
 use Rattle.lpc.proofs.top.Statement.{statement}
 use Rattle.lpc.proofs.top.Tie as tie
 
-twice-product-requires : tie.Need-twice-product-requires
-twice-product-requires c κs = search needs
-
-sat32-requires : tie.Need-sat32-requires
-sat32-requires c κs = search needs
-
-l-shl-requires : tie.Need-l-shl-requires
-l-shl-requires c κs = search needs
-
-l-sub-requires : tie.Need-l-sub-requires
-l-sub-requires c κs = search needs
-
 returns : tie.Need-returns
 unfolding top
 returns c =
-    let m = c .before .before .before in
-    let s = m .before in
-    came w32 (c .l-sub) ∙ c .l-sub .ensures
-    ∙ rw (
+    let s = c .before .before .before .before in
+    cc (
+      came w32 (c .l-sub),
       came w32 (c .before .l-shl),
-      c .before .l-shl .ensures,
       came w32 (c .before .before .sat32),
-      c .before .before .sat32 .ensures,
-      came w64 (m .twice-product),
-      m .twice-product .ensures,
+      came w64 (c .before .before .before .twice-product),
       toZ-ofZ (s .fits .previous),
       toZ-ofZ (s .fits .q),
       toZ-ofZ (s .fits .older),
@@ -44,4 +27,4 @@ returns c =
 pub top-spec : {M : Type 1} → statement M
 top-spec =
     tie.close
-    (tie.spec twice-product-requires sat32-requires l-shl-requires l-sub-requires returns)
+    (tie.spec (λ c κs. search needs) (λ c κs. search needs) (λ c κs. search needs) (λ c κs. search needs) returns)

@@ -5,28 +5,16 @@ use borrow.Author.Needs.{needs}
 use lib.IntN.{pos, _*ℤ_}
 use mir.Syntax.{w16, w32, w64}
 use mir.Val.{toZ, ofZ}
-use mir.Facts.{toZ-ofZ, sfits-widen}
+use mir.Facts.{toZ-ofZ}
 use Rattle.laws.specs.Range.{fits-mul}
-use Rattle.laws.specs.Back.{came, fits-came, keep}
+use Rattle.laws.specs.Back.{came, fits-came, widens, wide, still}
 use Rattle.basic_op.specs.Oper32b.{multiply-32-by-16}
 use Rattle.lpc.specs.Small.{four, twice-small}
 use Rattle.lpc.proofs.twice_product.Statement.{statement}
 use Rattle.lpc.proofs.twice_product.Tie as tie
 
-sar32-requires : tie.Need-sar32-requires
-sar32-requires c κs = search needs
-
-cast-sar64 : tie.Need-cast-sar64
-cast-sar64 c = sfits-widen tt (keep w32 tt (fits-came w32 (c .sar32)))
-
-cast-sar64-2 : tie.Need-cast-sar64-2
-cast-sar64-2 c = sfits-widen tt (keep w16 tt (c .before .fits .q))
-
 mul-sar64 : tie.Need-mul-sar64
-mul-sar64 c = fits-mul w32 w16 w64 _ _ (keep w64 tt (keep w32 tt (fits-came w32 (c .sar32)))) (keep w64 tt (keep w16 tt (c .before .fits .q))) tt
-
-sar64-requires : tie.Need-sar64-requires
-sar64-requires c κs = search needs
+mul-sar64 c = fits-mul w32 w16 w64 _ _ (still w64 tt (fits-came w32 (c .sar32))) (still w64 tt (c .before .fits .q)) tt
 
 value : (c : tie.After-sar64) → toZ w64 (ofZ w64 (c .sar64 .result)) *ℤ pos 4 ≡ multiply-32-by-16 (c .before .before .args .v) (c .before .before .args .q) *ℤ pos 2
 value c =
@@ -36,12 +24,10 @@ value c =
       came w64 (c .sar64),
       c .sar64 .ensures,
       toZ-ofZ (mul-sar64 b),
-      toZ-ofZ (cast-sar64 b),
-      toZ-ofZ (cast-sar64-2 b),
-      came w32 (b .sar32),
+      wide w64 tt (fits-came w32 (b .sar32)),
+      wide w64 tt (s .fits .q),
       b .sar32 .ensures,
       toZ-ofZ (s .fits .v),
-      toZ-ofZ (s .fits .q),
     )
     (four (s .args .v) (s .args .q) (s .pre) (s .fits .q .sfits))
 
@@ -56,4 +42,4 @@ returns c = toZ-ofZ (mul-result c) ∙ value c
 pub twice-product-spec : {M : Type 1} → statement M
 twice-product-spec =
     tie.close
-    (tie.spec sar32-requires cast-sar64 cast-sar64-2 mul-sar64 sar64-requires mul-result returns)
+    (tie.spec (λ c κs. search needs) (λ c. widens w64 tt (fits-came w32 (c .sar32))) (λ c. widens w64 tt (c .before .fits .q)) mul-sar64 (λ c κs. search needs) mul-result returns)

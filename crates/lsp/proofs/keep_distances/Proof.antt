@@ -5,7 +5,7 @@ use mir.Syntax.{w16}
 use mir.Val.{toZ}
 use mir.Facts.{toZ-ofZ}
 use Rattle.laws.specs.Lists.{at}
-use Rattle.laws.specs.Loops.{run, run-none, write, run-end}
+use Rattle.laws.specs.Loops.{run, run-none, write, ended-from}
 use Rattle.laws.specs.Back.{via2}
 use Rattle.lsp.specs.Lsp.{keep-distance}
 use borrow.Author.Needs.{needs}
@@ -27,7 +27,7 @@ loop-again c = (
 )
 
 returns : tie.Need-returns Inv-loop μ-loop
-returns c = run-end _ _ _ 9 _ _ (c .before .loop .inv .1) (omega arith) ∙ rw (toZ-ofZ (c .before .before .fits .distance))
+returns c = ended-from (run _ _) 9 (c .before .loop .inv .1) (omega arith) ∙ rw (toZ-ofZ (c .before .before .fits .distance))
 
 pub keep-distances-spec : {M : Type 1} → statement M
 keep-distances-spec =

@@ -13,7 +13,7 @@ returns : tie.Need-returns
 returns c =
     let s = c .before .before .before .before .before .before in
     let m = c .before .before .before in
-    bounded _ _ _ _ _ _ (c .before .before .before .before .before .sort .ensures)
+    bounded _ _ _ _ _ _ (c .before .before .before .before .before .sort .ensures .0)
     (via2 w16 w16 w16 greater _ _ (m .greater .result) (m .before .greater-arg .given) (s .fits .low .sfits) (m .greater .ok) (m .greater .ensures))
     (c .before .before .keep-distances .ensures ∙ rw (toZ-ofZ (s .fits .distance)))
     (via2 w16 w16 w16 lesser _ _ (c .lesser .result) (c .before .lesser-arg .given) (s .fits .high .sfits) (c .lesser .ok) (c .lesser .ensures))

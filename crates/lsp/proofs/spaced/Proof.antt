@@ -6,7 +6,7 @@ use mir.Syntax.{w16}
 use mir.Val.{toZ, ofZ}
 use mir.Facts.{toZ-ofZ}
 use Rattle.laws.specs.Lists.{at}
-use Rattle.laws.specs.Loops.{nowhere, nowhere-none, nowhere-hit, nowhere-miss, nowhere-end}
+use Rattle.laws.specs.Loops.{nowhere, nowhere-none, nowhere-hit, nowhere-miss, ended}
 use Rattle.laws.specs.Back.{via2}
 use Rattle.basic_op.specs.Ops.{add, sub}
 use Rattle.lsp.specs.Laws.{close}
@@ -32,7 +32,7 @@ loop-again c =
     )
 
 returns : tie.Need-returns Inv-loop μ-loop
-returns c = nowhere-end _ _ 9 _ (c .before .loop .inv .1) (omega arith) ∙ rw (toZ-ofZ (c .before .before .fits .spacing))
+returns c = ended (nowhere _) 9 (c .before .loop .inv .1) (omega arith) ∙ rw (toZ-ofZ (c .before .before .fits .spacing))
 
 pub spaced-spec : {M : Type 1} → statement M
 spaced-spec =

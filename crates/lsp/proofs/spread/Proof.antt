@@ -4,7 +4,7 @@ use Prim.Native.Nat.{_-_, _≤_}
 use mir.Syntax.{w16}
 use mir.Val.{toZ}
 use mir.Facts.{toZ-ofZ}
-use Rattle.laws.specs.Loops.{steps, steps-none, steps-turn, steps-end}
+use Rattle.laws.specs.Loops.{steps, steps-none, steps-turn, ended-from}
 use Rattle.lsp.specs.Lsp.{spread-pair, enforce-spacing}
 use borrow.Author.Needs.{needs}
 use native.Mathlib.Omega.{arith}
@@ -22,7 +22,7 @@ loop-again c = (search needs, steps-turn _ _ _ _ _ (c .before .before .before .l
 
 returns : tie.Need-returns Inv-loop μ-loop
 unfolding enforce-spacing
-returns c = steps-end _ _ 9 _ _ (c .before .loop .inv .1) (omega arith) ∙ rw (toZ-ofZ (c .before .before .fits .spacing))
+returns c = ended-from (steps _) 9 (c .before .loop .inv .1) (omega arith) ∙ rw (toZ-ofZ (c .before .before .fits .spacing))
 
 pub spread-spec : {M : Type 1} → statement M
 spread-spec =

@@ -5,7 +5,7 @@ use mir.Syntax.{w16, w32}
 use mir.Val.{toZ}
 use mir.Facts.{toZ-ofZ}
 use Rattle.laws.specs.Lists.{at}
-use Rattle.laws.specs.Loops.{steps, steps-none, steps-turn, steps-end}
+use Rattle.laws.specs.Loops.{steps, steps-none, steps-turn, ended-from}
 use Rattle.laws.specs.Back.{via2}
 use Rattle.basic_op.specs.Ops.{l-msu}
 use Rattle.lsp_ma.specs.Ma.{row, subtract-past}
@@ -29,7 +29,7 @@ loop-again c = (
 
 returns : tie.Need-returns Inv-loop μ-loop
 unfolding subtract-past
-returns c = steps-end _ _ 4 _ _ (c .before .loop .inv .1) (omega arith) ∙ rw (toZ-ofZ (c .before .before .fits .sum))
+returns c = ended-from (steps _) 4 (c .before .loop .inv .1) (omega arith) ∙ rw (toZ-ofZ (c .before .before .fits .sum))
 
 pub subtract-past-spec : {M : Type 1} → statement M
 subtract-past-spec =

@@ -7,7 +7,7 @@ use mir.Syntax.{w16}
 use mir.Val.{toZ}
 use mir.Facts.{toZ-ofZ}
 use Rattle.laws.specs.Lists.{at}
-use Rattle.laws.specs.Loops.{run, run-none, run-end, write}
+use Rattle.laws.specs.Loops.{run, run-none, write, ended-from}
 use Rattle.laws.specs.Back.{via2}
 use Rattle.synth.specs.Synth.{excite, excitation}
 use Rattle.synth.proofs.excitation.Statement.{statement}
@@ -31,7 +31,7 @@ unfolding excitation
 returns c =
     let l = c .before in
     let s = l .before .before in
-    run-end _ _ _ 40 _ _ (l .loop .inv .1) (omega arith) ∙ rw (l .before .exc-start .ensures .0, toZ-ofZ (s .fits .gp), toZ-ofZ (s .fits .gc))
+    ended-from (run _ _) 40 (l .loop .inv .1) (omega arith) ∙ rw (l .before .exc-start .ensures .0, toZ-ofZ (s .fits .gp), toZ-ofZ (s .fits .gc))
 
 pub excitation-spec : {M : Type 1} → statement M
 excitation-spec =

@@ -3,33 +3,27 @@ use lib.IntN.{pos, _+ℤ_, _*ℤ_}
 use mathlib.Core.Path.{_≡_}
 use mir.Syntax.{w16, w64}
 use mir.Val.{toZ, ofZ}
-use mir.Facts.{toZ-ofZ, sfits-widen}
+use mir.Facts.{toZ-ofZ}
 use Rattle.laws.specs.Range.{fits-shl}
-use Rattle.laws.specs.Back.{keep}
+use Rattle.laws.specs.Back.{widens, wide, still}
 use Rattle.synth_filter.specs.Fast.{both}
 use Rattle.synth_filter.specs.Pairs.{both-words, both-fits}
 use native.Mathlib.Omega.{arith}
 use Rattle.synth_filter.proofs.both.Statement.{statement}
 use Rattle.synth_filter.proofs.both.Tie as tie
 
-cast-result : tie.Need-cast-result
-cast-result c = sfits-widen tt (keep w16 tt (c .fits .p))
-
-cast-result-2 : tie.Need-cast-result-2
-cast-result-2 c = sfits-widen tt (keep w16 tt (c .fits .q))
-
 mul-result : tie.Need-mul-result
-mul-result c = fits-shl w16 w64 _ 32 (keep w64 tt (keep w16 tt (c .fits .q))) (omega arith)
+mul-result c = fits-shl w16 w64 _ 32 (still w64 tt (c .fits .q)) (omega arith)
 
 add-result : tie.Need-add-result
-add-result c = rw (toZ-ofZ (mul-result c)) (both-fits _ _ (keep w64 tt (keep w16 tt (c .fits .p))) (keep w64 tt (keep w16 tt (c .fits .q))))
+add-result c = rw (toZ-ofZ (mul-result c)) (both-fits _ _ (still w64 tt (c .fits .p)) (still w64 tt (c .fits .q)))
 
 sum : (c : tie.Start) → toZ w64 (ofZ w64 (toZ w64 (ofZ w64 (toZ w16 (ofZ w16 (c .args .p)))) +ℤ toZ w64 (ofZ w64 (toZ w64 (ofZ w64 (toZ w16 (ofZ w16 (c .args .q)))) *ℤ pos 4294967296)))) ≡ both (c .args .p) (c .args .q)
 unfolding both
-sum c = cc (toZ-ofZ (add-result c), toZ-ofZ (mul-result c), toZ-ofZ (cast-result c), toZ-ofZ (cast-result-2 c), toZ-ofZ (c .fits .p), toZ-ofZ (c .fits .q))
+sum c = cc (toZ-ofZ (add-result c), toZ-ofZ (mul-result c), wide w64 tt (c .fits .p), wide w64 tt (c .fits .q))
 
 returns : tie.Need-returns
 returns c = (sum c, rw (sum c) (both-words (c .args .p) (c .args .q) (c .fits .p) (c .fits .q)))
 
 pub both-spec : {M : Type 1} → statement M
-both-spec = tie.close (tie.spec cast-result cast-result-2 mul-result add-result returns)
+both-spec = tie.close (tie.spec (λ c. widens w64 tt (c .fits .p)) (λ c. widens w64 tt (c .fits .q)) mul-result add-result returns)

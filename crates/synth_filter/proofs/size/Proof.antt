@@ -6,22 +6,19 @@ use lib.IntN.{ℤ, pos, natAbs, _-ℤ_}
 use lib.Signed.{natAbs-le}
 use mir.Syntax.{w16, w32}
 use mir.Val.{toZ, ofZ}
-use mir.Facts.{toZ-ofZ, sfits-widen, sfits-lit, fits-natAbs}
+use mir.Facts.{toZ-ofZ, sfits-lit, fits-natAbs}
 use Rattle.laws.specs.Range.{fits-sub, neg-part, abs-part}
-use Rattle.laws.specs.Back.{keep, nonneg-of}
+use Rattle.laws.specs.Back.{keep, nonneg-of, widens, still}
 use Rattle.synth_filter.specs.FastLaws.{size-large, size-plain}
 use Rattle.synth_filter.proofs.size.Statement.{statement}
 use Rattle.synth_filter.proofs.size.Tie as tie
 
-cast-result : tie.Need-cast-result
-cast-result c = sfits-widen tt (keep w16 tt (c .before .before .fits .c))
-
 sub-result : tie.Need-sub-result
-sub-result c = fits-sub w16 w16 w32 (pos 0) _ (sfits-lit tt) (keep w32 tt (keep w16 tt (c .before .before .fits .c))) tt
+sub-result c = fits-sub w16 w16 w32 (pos 0) _ (sfits-lit tt) (still w32 tt (c .before .before .fits .c)) tt
 
 -- the difference is the size
 size : (c : tie.Then2) → toZ w32 (ofZ w32 (pos 0 -ℤ toZ w32 (ofZ w32 (toZ w16 (ofZ w16 (c .before .before .args .c)))))) ≡ pos (natAbs (c .before .before .args .c))
-size c = toZ-ofZ (sub-result c) ∙ ap (λ (z : ℤ). pos 0 -ℤ z) (toZ-ofZ (cast-result c)) ∙ neg-part (toZ-ofZ (c .before .before .fits .c)) (c .if2 .taken)
+size c = toZ-ofZ (sub-result c) ∙ ap (λ (z : ℤ). pos 0 -ℤ z) (toZ-ofZ (widens w32 tt (c .before .before .fits .c))) ∙ neg-part (toZ-ofZ (c .before .before .fits .c)) (c .if2 .taken)
 
 cast-result-2 : tie.Need-cast-result-2
 cast-result-2 c = (nonneg-of (size c), fits-natAbs tt (keep w32 tt (sub-result c)))
@@ -46,4 +43,4 @@ returns-3 c =
     (e ∙ size-plain (toZ-ofZ (s .fits .c)) (s .fits .c) (c .before .if1 .left), rw e (omega (arith, natAbs-le (s .args .c) (s .fits .c .sfits))))
 
 pub size-spec : {M : Type 1} → statement M
-size-spec = tie.close (tie.spec cast-result sub-result cast-result-2 cast-result-3 returns returns-2 returns-3)
+size-spec = tie.close (tie.spec (λ c. widens w32 tt (c .before .before .fits .c)) sub-result cast-result-2 cast-result-3 returns returns-2 returns-3)

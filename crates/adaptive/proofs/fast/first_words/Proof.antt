@@ -1,7 +1,7 @@
 -- `adaptive::fast::first_words` meets its contract: its tests are what `words` requires. Assumes nothing.
 use native.Mathlib.Omega.{arith}
 use borrow.Author.Needs.{needs}
-use Rattle.laws.specs.Loops.{run-none, run-end}
+use Rattle.laws.specs.Loops.{run, run-none, ended-from}
 use Rattle.adaptive.proofs.fast.first_words.Statement.{statement}
 use Rattle.adaptive.proofs.fast.first_words.Tie as tie
 
@@ -30,7 +30,7 @@ returns-4 : tie.Need-returns-4
 returns-4 c =
     let f = c .before .before .before .words .ensures in
     let w = c .words2 .ensures in
-    (w .0, w .1 .1 _ (run-end _ _ _ 20 _ _ (f .1 .1 _ (run-none _ _ _)) (omega (arith, f .0))))
+    (w .0, w .1 .1 _ (ended-from (run _ _) 20 (f .1 .1 _ (run-none _ _ _)) (omega (arith, f .0))))
 
 pub first-words-spec : {M : Type 1} → statement M
 first-words-spec =

@@ -7,7 +7,7 @@ use lib.IntN.{pos}
 use lib.ListN.{replicate}
 use mir.Syntax.{w16}
 use Rattle.laws.specs.Lists.{at}
-use Rattle.laws.specs.Loops.{run, run-none, write, run-end}
+use Rattle.laws.specs.Loops.{run, run-none, write, ended-from}
 use Rattle.laws.specs.Back.{via}
 use Rattle.adaptive.specs.Fast.{tap, taps}
 use Rattle.adaptive.proofs.fast.taps.Statement.{statement}
@@ -27,7 +27,7 @@ loop-again c =
 
 returns : tie.Need-returns Inv-loop μ-loop
 unfolding taps
-returns c = run-end _ _ _ 20 _ _ (c .before .loop .inv .1) (omega arith)
+returns c = ended-from (run _ _) 20 (c .before .loop .inv .1) (omega arith)
 
 pub taps-spec : {M : Type 1} → statement M
 taps-spec =

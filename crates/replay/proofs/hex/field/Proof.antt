@@ -2,7 +2,7 @@
 use Prim.Native.Nat.{_-_, _≤_}
 use mathlib.Core.Path.{_≡_, _∙_}
 use native.Mathlib.Omega.{arith}
-use Rattle.laws.specs.Loops.{steps-none, steps-turn, steps-end}
+use Rattle.laws.specs.Loops.{steps, steps-none, steps-turn, ended-from}
 use Rattle.replay.specs.Replay.{number}
 use Rattle.replay.specs.Laws.{shift-in}
 use borrow.Author.Needs.{needs}
@@ -25,7 +25,7 @@ loop-again c = (search needs, steps-turn _ _ _ _ _ (c .before .before .before .l
 
 returns : tie.Need-returns Inv-loop μ-loop
 unfolding number
-returns c = steps-end _ _ _ _ _ (c .before .loop .inv .1) (omega arith)
+returns c = ended-from (steps _) _ (c .before .loop .inv .1) (omega arith)
 
 pub field-spec : {M : Type 1} → statement M
 field-spec =

@@ -12,25 +12,16 @@ use Rattle.replay_ops.specs.{halves-fit}
 use Rattle.replay_ops.proofs.call.halves.Statement.{statement}
 use Rattle.replay_ops.proofs.call.halves.Tie as tie
 
-signed-requires : tie.Need-signed-requires
-signed-requires c κs = search needs
-
 cast-result : tie.Need-cast-result
 cast-result c = sfits-widen tt (keep w32 tt (fits-came w32 (c .signed)))
 
 mul-result : tie.Need-mul-result
 mul-result c = fits-scale w32 w64 _ 4294967296 (keep w64 tt (keep w32 tt (fits-came w32 (c .signed)))) (lit< tt) (lit≤ tt)
 
-cast-result-2 : tie.Need-cast-result-2
-cast-result-2 c = search needs
-
 add-result : tie.Need-add-result
 add-result c =
     rw (toZ-ofZ (mul-result c), toZ-ofZ (cast-result c), toZ-pos w64 (c .before .args .low) (omega arith))
     (record { sfits = halves-fit (toZ w32 (ofZ w32 (c .signed .result))) (c .before .args .low) (keep w32 tt (fits-came w32 (c .signed)) .sfits) (omega arith) })
 
-returns : tie.Need-returns
-returns c = search needs
-
 pub halves-spec : {M : Type 1} → statement M
-halves-spec = tie.close (tie.spec signed-requires cast-result mul-result cast-result-2 add-result returns)
+halves-spec = tie.close (tie.spec (λ c κs. search needs) cast-result mul-result (λ c. search needs) add-result (λ c. search needs))
