@@ -6,6 +6,7 @@ use lib.IntN.{ℤ, pos}
 use lib.Signed.{ltZ}
 use Rattle.laws.specs.Lists.{at}
 use Rattle.laws.specs.Loops.{steps, run}
+use Rattle.block.specs.Places.{subframe-length, exc-start}
 use Rattle.basic_op.specs.Ops.{l-mac, round}
 use Rattle.pitch.specs.Pitch.{nat}
 
@@ -26,9 +27,9 @@ unfoldable pub interpolate : List ℤ → ℕ → ℕ → List ℤ → ℤ
 interpolate b30 phase x u =
     round (steps (λ i s. l-mac (l-mac s (at u (x - i)) (at b30 (phase + 3 * i))) (at u (x + 1 + i)) (at b30 (3 - phase + 3 * i))) 10 (pos 0))
 
--- Equation (40): the 40 words of the subframe, from 154 on or, in the second subframe, from 194 on, in a buffer of 234. Each reads the
+-- Equation (40): the 40 words of the subframe, in the frame's excitation. Each reads the
 -- buffer as the words before it left it, so that at delays below 40 the first words of the vector feed its later ones.
 unfoldable pub adaptive-vector : List ℤ → Bool → ℤ → ℤ → List ℤ → List ℤ
 adaptive-vector b30 second t0 frac exc =
-    let from : ℕ = cond second 194 154 in
-    run (λ n e. interpolate b30 (phase frac) (from + n - lag t0 frac) e) from 40 exc
+    let from = exc-start second in
+    run (λ n e. interpolate b30 (phase frac) (from + n - lag t0 frac) e) from subframe-length exc

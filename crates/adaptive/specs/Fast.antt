@@ -10,6 +10,7 @@ use lib.Signed.{mag}
 use lib.ListN.{replicate}
 use Rattle.laws.specs.Lists.{at}
 use Rattle.laws.specs.Loops.{steps, run}
+use Rattle.block.specs.Places.{subframe-length, exc-length}
 use Rattle.basic_op.specs.Ops.{l-mac, round}
 
 -- where tap j of a phase stands in the filter
@@ -46,7 +47,7 @@ Padded c o = ((j : ℕ) → j < o → at c j ≡ pos 0) × ((j : ℕ) → o + 20
 
 -- every 32 words that a subframe at `from` reads, o of them before the oldest that a tap weighs, lie within the buffer
 abbrev pub Room : ℕ → ℕ → ℕ → Type 0
-Room o from k = (o ≤ 12) × ((22 ≤ k + o) × ((k + o + 9 ≤ from) × (from + 40 ≤ 234)))
+Room o from k = (o ≤ 12) × ((22 ≤ k + o) × ((k + o + 9 ≤ from) × (from + subframe-length ≤ exc-length)))
 
 -- taps of a size at which no sum of small words saturates, and places within the buffer
 abbrev pub NoSaturation : List ℤ → ℕ → ℕ → ℕ → Type 0

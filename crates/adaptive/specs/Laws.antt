@@ -10,6 +10,7 @@ use lib.IntN.{ℤ, pos, negsuc, _-ℤ_, _*ℤ_}
 use lib.Signed.{ltZ}
 use mir.Facts.{and-yes, leb-yes}
 use Rattle.laws.specs.Loops.{every, every-at, run}
+use Rattle.block.specs.Places.{subframe-length, exc-length, exc-start}
 use Rattle.pitch.specs.declared.Delay.{Delay}
 use Rattle.pitch.specs.Pitch.{decode-t1, decode-t2, t-min, carried, nat}
 use Rattle.pitch.specs.Laws.{between, between-pos, low8}
@@ -36,16 +37,15 @@ lag-most t0 frac = omega arith
 
 -- every word that is read or written stands within the buffer
 pub places : (t0 frac : ℤ) (k p from : ℕ) → k ≡ lag t0 frac → p ≡ phase frac → 153 ≤ from → from ≤ 194
-    → (p ≤ 2) × ((10 ≤ k) × ((k ≤ 144) × ((153 ≤ from) × (from + 40 ≤ 234))))
+    → (p ≤ 2) × ((10 ≤ k) × ((k ≤ 144) × ((153 ≤ from) × (from + subframe-length ≤ exc-length))))
 places t0 frac k p from ek ep l h =
     rw (ek, ep) (phase-most frac, (lag-least t0 frac, (lag-most t0 frac, (l, omega arith))))
 
 -- the vector by the code's numbers
-pub vector-is : (b30 exc out : List ℤ) (second b : Bool) (t0 frac : ℤ) (k p : ℕ) → second ≡ b → k ≡ lag t0 frac → p ≡ phase frac
-    → out ≡ run (λ n e. interpolate b30 p (cond b 194 154 + n - k) e) (cond b 194 154) 40 exc → out ≡ adaptive-vector b30 second t0 frac exc
+pub vector-is : (b30 exc out : List ℤ) (second : Bool) (t0 frac : ℤ) (from k p : ℕ) → from ≡ exc-start second → k ≡ lag t0 frac → p ≡ phase frac
+    → out ≡ run (λ n e. interpolate b30 p (from + n - k) e) from subframe-length exc → out ≡ adaptive-vector b30 second t0 frac exc
 unfolding adaptive-vector
-vector-is b30 exc out second b t0 frac k p eb ek ep e =
-    e ∙ (λ i. run (λ n u. interpolate b30 (ep i) (cond (sym eb i) 194 154 + n - ek i) u) (cond (sym eb i) 194 154) 40 exc)
+vector-is b30 exc out second t0 frac from k p ef ek ep e = e ∙ (λ i. run (λ n u. interpolate b30 (ep i) (ef i + n - ek i) u) (ef i) subframe-length exc)
 
 -- ---- the limit of equation (40) alters no delay
 

@@ -6,7 +6,9 @@ ghost use Prim.Native.Nat.{_+_, _-_, _≤_, _<_};
 ghost use lib.IntN.{_*ℤ_};
 ghost use lib.Signed.{mag};
 ghost use Rattle.laws.specs.Loops.{run};
+ghost use Rattle.block.specs.Places.{exc-length};
 ghost use Rattle.adaptive.specs.Fast.{tap, taps, size-sum, dot, filtered, Small, Sums, Padded, Room, NoSaturation, Continues};
+use block::places::EXC_LENGTH;
 
 // How many of the zeros stand in front of the taps, so that all 32 words read lie within the buffer.
 pub(crate) fn offset(k: usize) -> usize
@@ -62,8 +64,8 @@ fn size_sum(c: &[i16; 32]) -> u32
 }
 
 // The greatest magnitude of the 59 words from `from` on, which are all that a subframe reads.
-fn greatest(exc: &[i16; 234], from: usize) -> u16
-    requires { ⌜ from + 59 ≤ 234 ⌝ }
+fn greatest(exc: &[i16; EXC_LENGTH], from: usize) -> u16
+    requires { ⌜ from + 59 ≤ exc-length ⌝ }
     ensures { λ r. ⌜ Small (now (exc .entry)) from 59 (r + 1) ⌝ }
 {
     let mut m = 0u16;
@@ -83,8 +85,8 @@ fn times(a: i16, b: i16) -> i32
 }
 
 // The sum of the 32 products, the oldest word at `from`; a word that meets a zero may have any size.
-fn dot(c: &[i16; 32], exc: &[i16; 234], from: usize) -> i32
-    requires { ⌜ (from + 32 ≤ 234) × Sums (now c) (now exc) from ⌝ }
+fn dot(c: &[i16; 32], exc: &[i16; EXC_LENGTH], from: usize) -> i32
+    requires { ⌜ (from + 32 ≤ exc-length) × Sums (now c) (now exc) from ⌝ }
     ensures { λ r. ⌜ r ≡ dot (now (c .entry)) (now (exc .entry)) from 32 ⌝ }
 {
     let mut s = 0i32;
@@ -97,8 +99,8 @@ fn dot(c: &[i16; 32], exc: &[i16; 234], from: usize) -> i32
 }
 
 // The word whose oldest term is at `from`, by the taps from `offset` on, rounded; beyond 16 bits it is not limited.
-fn word(c: &[i16; 32], exc: &[i16; 234], from: usize, offset: usize) -> i32
-    requires { ⌜ (offset ≤ 12) × ((offset ≤ from) × ((from + 32 ≤ 234 + offset) × ((size-sum (now c) 32 ≤ 65534) × (Padded (now c) offset × Small (now exc) from 20 16384)))) ⌝ }
+fn word(c: &[i16; 32], exc: &[i16; EXC_LENGTH], from: usize, offset: usize) -> i32
+    requires { ⌜ (offset ≤ 12) × ((offset ≤ from) × ((from + 32 ≤ exc-length + offset) × ((size-sum (now c) 32 ≤ 65534) × (Padded (now c) offset × Small (now exc) from 20 16384)))) ⌝ }
     ensures { λ r. ⌜ r ≡ filtered (now (c .entry)) offset (from + 9) (now (exc .entry)) ⌝ }
 {
     basic_op::sar32(dot(c, exc, from - offset) + 16384, 15)
@@ -107,7 +109,7 @@ fn word(c: &[i16; 32], exc: &[i16; 234], from: usize, offset: usize) -> i32
 // Words `start` to `end` of the subframe at `from`, up to the first that is not small; where it stopped.
 fn words(
     c: &[i16; 32],
-    exc: &mut [i16; 234],
+    exc: &mut [i16; EXC_LENGTH],
     from: usize,
     k: usize,
     offset: usize,
@@ -136,7 +138,7 @@ fn words(
 // function: inlined, its taps become scalars, and no product is made by a vector instruction.
 pub(crate) fn first_words(
     c: &[i16; 32],
-    exc: &mut [i16; 234],
+    exc: &mut [i16; EXC_LENGTH],
     from: usize,
     k: usize,
     offset: usize,

@@ -2,8 +2,11 @@
 ghost use mathlib.Core.Path.{_≡_};
 ghost use Prim.Native.Nat.{_+_, _-_, _≤_, _<_};
 ghost use Rattle.laws.specs.Loops.{run};
+ghost use Rattle.block.specs.Places.{exc-length};
 ghost use Rattle.adaptive.specs.Adaptive.{phase, limited, lag, interpolate, adaptive-vector};
 ghost use Rattle.adaptive.specs.Fast.{Continues};
+use block::places;
+use block::places::EXC_LENGTH;
 
 mod fast;
 
@@ -45,8 +48,8 @@ fn lag(t0: i16, frac: i16) -> usize
 }
 
 // The sum of equation (40) around word x.
-fn interpolate(b30: &[i16; 31], exc: &[i16; 234], phase: usize, x: usize) -> i16
-    requires { ⌜ (phase ≤ 2) × ((9 ≤ x) × (x + 10 < 234)) ⌝ }
+fn interpolate(b30: &[i16; 31], exc: &[i16; EXC_LENGTH], phase: usize, x: usize) -> i16
+    requires { ⌜ (phase ≤ 2) × ((9 ≤ x) × (x + 10 < exc-length)) ⌝ }
     ensures { λ r. ⌜ r ≡ interpolate (now (b30 .entry)) phase x (now (exc .entry)) ⌝ }
 {
     let mut s = 0i32;
@@ -60,8 +63,15 @@ fn interpolate(b30: &[i16; 31], exc: &[i16; 234], phase: usize, x: usize) -> i16
 }
 
 // The words of a subframe from `done` on, each from those around k before it.
-fn rest(b30: &[i16; 31], exc: &mut [i16; 234], from: usize, k: usize, phase: usize, done: usize)
-    requires { ⌜ (phase ≤ 2) × ((10 ≤ k) × ((k + 9 ≤ from) × ((from + 40 ≤ 234) × (done ≤ 40)))) ⌝ }
+fn rest(
+    b30: &[i16; 31],
+    exc: &mut [i16; EXC_LENGTH],
+    from: usize,
+    k: usize,
+    phase: usize,
+    done: usize,
+)
+    requires { ⌜ (phase ≤ 2) × ((10 ≤ k) × ((k + 9 ≤ from) × ((from + 40 ≤ exc-length) × (done ≤ 40)))) ⌝ }
     ensures { λ r. ⌜ Continues (λ n e. interpolate (now (b30 .entry)) phase (from + n - k) e) from done 40 (now (exc .entry)) (now (exc .exit)) ⌝ }
 {
     let mut n = done;
@@ -72,8 +82,8 @@ fn rest(b30: &[i16; 31], exc: &mut [i16; 234], from: usize, k: usize, phase: usi
 }
 
 // Forty words from `from` on: the first ones without saturation, as far as that goes.
-fn vector(b30: &[i16; 31], exc: &mut [i16; 234], from: usize, k: usize, phase: usize)
-    requires { ⌜ (phase ≤ 2) × ((10 ≤ k) × ((k ≤ 144) × ((153 ≤ from) × (from + 40 ≤ 234)))) ⌝ }
+fn vector(b30: &[i16; 31], exc: &mut [i16; EXC_LENGTH], from: usize, k: usize, phase: usize)
+    requires { ⌜ (phase ≤ 2) × ((10 ≤ k) × ((k ≤ 144) × ((153 ≤ from) × (from + 40 ≤ exc-length)))) ⌝ }
     ensures { λ r. ⌜ now (exc .exit) ≡ run (λ n e. interpolate (now (b30 .entry)) phase (from + n - k) e) from 40 (now (exc .entry)) ⌝ }
 {
     let offset = fast::offset(k);
@@ -83,14 +93,16 @@ fn vector(b30: &[i16; 31], exc: &mut [i16; 234], from: usize, k: usize, phase: u
 }
 
 // Equation (40): the adaptive-codebook vector at delay t0 + frac / 3, written over its subframe of the excitation.
-pub fn adaptive_vector(b30: &[i16; 31], exc: &mut [i16; 234], second: bool, t0: i16, frac: i16)
+pub fn adaptive_vector(
+    b30: &[i16; 31],
+    exc: &mut [i16; EXC_LENGTH],
+    second: bool,
+    t0: i16,
+    frac: i16,
+)
     ensures { λ r. ⌜ now (exc .exit) ≡ adaptive-vector (now (b30 .entry)) second t0 frac (now (exc .entry)) ⌝ }
 {
+    let from = places::exc_start(second);
     let k = lag(t0, frac);
-    let p = phase(frac);
-    if second {
-        vector(b30, exc, 194, k, p);
-        return;
-    }
-    vector(b30, exc, 154, k, p);
+    vector(b30, exc, from, k, phase(frac));
 }

@@ -5,7 +5,8 @@ use mathlib.Core.List.{List}
 use lib.IntN.{ℤ}
 use lib.ListN.{length, length-map}
 use Rattle.laws.specs.Loops.{length-run}
-use Rattle.synth_filter.specs.Filter.{exc-start, synthesis, saturates}
+use Rattle.block.specs.Places.{exc-start}
+use Rattle.synth_filter.specs.Filter.{synthesis, saturates}
 use Rattle.synth_filter.specs.Laws.{synthesis-again, length-synthesis}
 use Rattle.synth.specs.Synth.{excitation, divide-by-4, reconstruct-exc, reconstruct-speech}
 

@@ -7,7 +7,8 @@ use lib.Signed.{shrZ}
 use Rattle.laws.specs.Lists.{at}
 use Rattle.laws.specs.Loops.{run}
 use Rattle.basic_op.specs.Ops.{l-mult, l-mac, l-shl, round}
-use Rattle.synth_filter.specs.Filter.{exc-start, synthesis, saturates}
+use Rattle.block.specs.Places.{exc-start, subframe-length}
+use Rattle.synth_filter.specs.Filter.{synthesis, saturates}
 
 -- ---- excitation
 
@@ -17,7 +18,7 @@ excite gp gc v c = round (l-shl (l-mac (l-mult v gp) c gc) (pos 1))
 
 -- the subframe's words, which hold the adaptive vector v, become u
 unfoldable pub excitation : Bool → List ℤ → ℤ → ℤ → List ℤ → List ℤ
-excitation second code gp gc exc = run (λ n e. excite gp gc (at e (exc-start second + n)) (at code n)) (exc-start second) 40 exc
+excitation second code gp gc exc = run (λ n e. excite gp gc (at e (exc-start second + n)) (at code n)) (exc-start second) subframe-length exc
 
 -- ---- reconstruction
 

@@ -4,6 +4,9 @@ ghost use mathlib.Core.Path.{_≡_};
 ghost use Prim.Native.Nat.{_≤_};
 ghost use lib.IntN.{natAbs};
 ghost use Rattle.synth.specs.Synth.{excite, excitation, divide-by-4, reconstruct-exc, reconstruct-speech};
+use block::places;
+use block::places::EXC_LENGTH;
+use block::places::SPEECH_LENGTH;
 
 // `excite` where neither gain is -32768: no product saturates, and the saturating steps behind them end like one clamp.
 fn excite_whole(gp: i16, gc: i16, v: i16, c: i16) -> i16
@@ -28,10 +31,10 @@ fn excite(gp: i16, gc: i16, v: i16, c: i16) -> i16
 }
 
 // Equation (75): the subframe's adaptive vector, which stands in `exc`, becomes its excitation.
-pub fn excitation(exc: &mut [i16; 234], second: bool, code: &[i16; 40], gp: i16, gc: i16)
+pub fn excitation(exc: &mut [i16; EXC_LENGTH], second: bool, code: &[i16; 40], gp: i16, gc: i16)
     ensures { λ r. ⌜ now (exc .exit) ≡ excitation second (now (code .entry)) gp gc (now (exc .entry)) ⌝ }
 {
-    let start = synth_filter::exc_start(second);
+    let start = places::exc_start(second);
     for n in 0..40 {
         exc[start + n] = excite(gp, gc, exc[start + n], code[n]);
     }
@@ -47,7 +50,12 @@ fn divide_by_4(exc: &mut [i16])
 }
 
 // Clause 4.1.6: the subframe's samples; where their synthesis saturates, it runs once more on the excitation divided by 4.
-pub fn reconstruct(a: &[i16; 11], exc: &mut [i16; 234], second: bool, speech: &mut [i16; 90])
+pub fn reconstruct(
+    a: &[i16; 11],
+    exc: &mut [i16; EXC_LENGTH],
+    second: bool,
+    speech: &mut [i16; SPEECH_LENGTH],
+)
     ensures { λ r. ⌜ now (exc .exit) ≡ reconstruct-exc second (now (a .entry)) (now (exc .entry)) (now (speech .entry)) ⌝ }
     ensures { λ r. ⌜ now (speech .exit) ≡ reconstruct-speech second (now (a .entry)) (now (exc .entry)) (now (speech .entry)) ⌝ }
 {

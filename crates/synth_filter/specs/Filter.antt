@@ -6,15 +6,9 @@ use mathlib.Core.Bool.{Bool, false, cond, _||_}
 use mathlib.Core.List.{List}
 use lib.IntN.{ℤ, pos}
 use Rattle.laws.specs.Lists.{at}
+use Rattle.block.specs.Places.{exc-start, speech-start, subframe-length}
 use Rattle.laws.specs.Loops.{steps, run}
 use Rattle.basic_op.specs.Ops.{l-mult, l-msu, l-shl, round, l-mult-overflow, l-msu-overflow, l-shl3-overflow, round-overflow}
-
--- the place of the subframe's first word in the excitation, and in the speech
-unfoldable pub exc-start : Bool → ℕ
-exc-start second = cond second 194 154
-
-unfoldable pub speech-start : Bool → ℕ
-speech-start second = cond second 50 10
 
 -- equation (77), y(n) = x(n) - a1 y(n - 1) - .. - a10 y(n - 10), with coefficients in Q12, a0 the factor of x and y(n) at place n of y:
 -- the sum when k of the ten past samples are taken off, the newest first, which decides where it saturates
@@ -39,7 +33,7 @@ samples second a exc speech n = run (λ k y. synth-sample a (at exc (exc-start s
 
 -- clause 4.1.6: the speech with the subframe's 40 samples
 unfoldable pub synthesis : Bool → List ℤ → List ℤ → List ℤ → List ℤ
-synthesis second a exc speech = samples second a exc speech 40
+synthesis second a exc speech = samples second a exc speech subframe-length
 
 -- whether an operation of the subframe's sample n saturates, on the speech as it then is
 unfoldable pub overflow-at : Bool → List ℤ → List ℤ → List ℤ → ℕ → Bool

@@ -11,7 +11,8 @@ use lib.Seq.{getD-set-other}
 use Rattle.laws.specs.Lists.{at}
 use Rattle.laws.specs.Loops.{steps-none, steps-turn, steps-same, write, run-again, length-run}
 use Rattle.basic_op.specs.Ops.{l-mult, l-msu, l-shl, round, l-mult-overflow, l-msu-overflow, l-shl3-overflow, round-overflow}
-use Rattle.synth_filter.specs.Filter.{exc-start, speech-start, synth-sum, synth-sum-overflow, synth-sample, synth-overflow, any, samples, overflow-at, synthesis}
+use Rattle.block.specs.Places.{exc-start, speech-start}
+use Rattle.synth_filter.specs.Filter.{synth-sum, synth-sum-overflow, synth-sample, synth-overflow, any, samples, overflow-at, synthesis}
 
 -- ---- f asked of no number, and of one more
 
@@ -64,7 +65,6 @@ sample-causal a x y n j v h q =
     ap (λ (s : ℤ). round (l-shl s (pos 3))) (steps-same _ _ 10 (l-mult x (at a 0)) (λ i b r. ap (l-msu r (at a (i + 1))) (getD-set-other y j (n - (i + 1)) v (pos 0) (λ e. omega arith))))
 
 start-pos : (second : Bool) → 0 < speech-start second
-unfolding speech-start
 start-pos true = omega arith
 start-pos false = omega arith
 

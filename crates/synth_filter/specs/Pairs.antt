@@ -19,7 +19,7 @@ use Rattle.laws.specs.Range.{abs-mul, mag-abs, mag-sub, mag-word}
 use Rattle.laws.specs.Sums.{abs-add, abs-sub, without, without-first, without-front}
 use Rattle.laws.specs.Ints.{add-swap, sub-sums, mul-add, sub-mul, mul-swap, shr-add}
 use Rattle.synth_filter.specs.Fast.{term, whole-sum, size, size-sum, Past, both, pairs, next-term, next-sum, Halves, Rounded, Sampled, Reached}
-use Rattle.synth_filter.specs.Filter.{exc-start, speech-start}
+use Rattle.block.specs.Places.{exc-start, speech-start}
 use Rattle.synth_filter.specs.Laws.{samples-turn, saturates-turn}
 use Rattle.synth_filter.specs.FastLaws.{size-at-least, product-size, excitation-size, size-sum-one, sample-whole, sample-quiet}
 

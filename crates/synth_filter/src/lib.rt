@@ -7,25 +7,12 @@ ghost use mathlib.Core.List.{List};
 ghost use lib.IntN.{ℤ, natAbs, _-ℤ_, _*ℤ_};
 ghost use lib.Signed.{mag};
 ghost use Rattle.laws.specs.Lists.{at};
-ghost use Rattle.synth_filter.specs.Filter.{exc-start, speech-start, synth-sample, synth-overflow, synthesis, saturates};
+ghost use Rattle.block.specs.Places.{speech-length};
+ghost use Rattle.synth_filter.specs.Filter.{synth-sample, synth-overflow, synthesis, saturates};
 ghost use Rattle.synth_filter.specs.Fast.{size, size-sum, both, pairs, next-sum, Past, Halves, Rounded, Sampled, Reached};
-
-// The place of the subframe's first word of excitation.
-pub fn exc_start(second: bool) -> usize
-    ensures { λ r. ⌜ r ≡ exc-start second ⌝ }
-    ensures { λ r. ⌜ r ≤ 194 ⌝ }
-{
-    if second { 194 } else { 154 }
-}
-
-// The place of the subframe's first sample.
-fn speech_start(second: bool) -> usize
-    ensures { λ r. ⌜ r ≡ speech-start second ⌝ }
-    ensures { λ r. ⌜ r ≤ 50 ⌝ }
-    ensures { λ r. ⌜ 10 ≤ r ⌝ }
-{
-    if second { 50 } else { 10 }
-}
+use block::places;
+use block::places::EXC_LENGTH;
+use block::places::SPEECH_LENGTH;
 
 // A sample, and whether an operation on the way to it saturated.
 struct Sample {
@@ -34,8 +21,8 @@ struct Sample {
 }
 
 // One sample of 1/A(z), equation (77): x is the excitation, and the past samples stand before place n of y.
-fn synth_sample(a: &[i16; 11], x: i16, y: &[i16; 90], n: usize) -> Sample
-    requires { ⌜ n ≤ 90 ⌝ }
+fn synth_sample(a: &[i16; 11], x: i16, y: &[i16; SPEECH_LENGTH], n: usize) -> Sample
+    requires { ⌜ n ≤ speech-length ⌝ }
     requires { ⌜ 10 ≤ n ⌝ }
     ensures { λ r. ⌜ r .word ≡ synth-sample (now (a .entry)) x (now (y .entry)) n ⌝ }
     ensures { λ r. ⌜ r .overflow ≡ synth-overflow (now (a .entry)) x (now (y .entry)) n ⌝ }
@@ -117,10 +104,17 @@ fn pairs(a: &[i16; 11]) -> [i64; 10]
 }
 
 // The sums of samples n and n + 1 in the halves of one number, still without their products with samples n - 1 and n.
-fn both_sums(a: &[i16; 11], b: &[i64; 10], x: i16, next: i16, y: &[i16; 90], n: usize) -> i64
+fn both_sums(
+    a: &[i16; 11],
+    b: &[i64; 10],
+    x: i16,
+    next: i16,
+    y: &[i16; SPEECH_LENGTH],
+    n: usize,
+) -> i64
     requires { ⌜ now b ≡ pairs (now a) ⌝ }
     requires { ⌜ size-sum (now a) 10 ≤ 61439 ⌝ }
-    requires { ⌜ n ≤ 90 ⌝ }
+    requires { ⌜ n ≤ speech-length ⌝ }
     requires { ⌜ 10 ≤ n ⌝ }
     ensures { λ r. ⌜ Halves (now (a .entry)) x next (now (y .entry)) n 1 r ⌝ }
     ensures { λ r. ⌜ Past (now (y .entry)) n 1 ⌝ }
@@ -165,13 +159,13 @@ fn first_of_two(
     x: i16,
     next: i16,
     newest: i16,
-    y: &[i16; 90],
+    y: &[i16; SPEECH_LENGTH],
     n: usize,
 ) -> First
     requires { ⌜ now b ≡ pairs (now a) ⌝ }
     requires { ⌜ size-sum (now a) 10 ≤ 61439 ⌝ }
     requires { ⌜ newest ≡ at (now y) (n - 1) ⌝ }
-    requires { ⌜ n ≤ 90 ⌝ }
+    requires { ⌜ n ≤ speech-length ⌝ }
     requires { ⌜ 10 ≤ n ⌝ }
     ensures { λ r. ⌜ (r .overflow ≡ false → Sampled (now (a .entry)) x (now (y .entry)) n (r .word)) ⌝ }
     ensures { λ r. ⌜ r .sum ≡ next-sum (now (a .entry)) next (now (y .entry)) n ⌝ }
@@ -200,12 +194,17 @@ fn second_of_two(a: &[i16; 11], sum: i64, first: i16) -> Sample
 
 // Writes the subframe's samples by their whole sums, two a turn, up to the first that may saturate, and says how many. The plain form has a loop
 // of its own, since with both in one the compiler runs out of registers.
-fn whole_samples(a: &[i16; 11], exc: &[i16; 234], second: bool, speech: &mut [i16; 90]) -> usize
+fn whole_samples(
+    a: &[i16; 11],
+    exc: &[i16; EXC_LENGTH],
+    second: bool,
+    speech: &mut [i16; SPEECH_LENGTH],
+) -> usize
     ensures { λ r. ⌜ r ≤ 40 ⌝ }
     ensures { λ r. ⌜ Reached second (now (a .entry)) (now (exc .entry)) (now (speech .entry)) (now (speech .exit)) false r ⌝ }
 {
-    let from = exc_start(second);
-    let start = speech_start(second);
+    let from = places::exc_start(second);
+    let start = places::speech_start(second);
     if size_sum(a) > 61439 {
         return 0;
     }
@@ -237,16 +236,16 @@ fn whole_samples(a: &[i16; 11], exc: &[i16; 234], second: bool, speech: &mut [i1
 // any speech y of which the first `done` samples made the one lent.
 fn plain_samples(
     a: &[i16; 11],
-    exc: &[i16; 234],
+    exc: &[i16; EXC_LENGTH],
     second: bool,
-    speech: &mut [i16; 90],
+    speech: &mut [i16; SPEECH_LENGTH],
     done: usize,
 ) -> bool
     requires { ⌜ done ≤ 40 ⌝ }
     ensures { λ r. ⌜ ((y : List ℤ) → Reached second (now (a .entry)) (now (exc .entry)) y (now (speech .entry)) false done → Reached second (now (a .entry)) (now (exc .entry)) y (now (speech .exit)) r 40) ⌝ }
 {
-    let from = exc_start(second);
-    let start = speech_start(second);
+    let from = places::exc_start(second);
+    let start = places::speech_start(second);
     let mut saturated = false;
     for n in done..40 {
         let s = synth_sample(a, exc[from + n], speech, start + n);
@@ -258,7 +257,12 @@ fn plain_samples(
 }
 
 // Equation (77): writes the subframe's 40 samples, and says whether an operation saturated.
-pub fn synthesize(a: &[i16; 11], exc: &[i16; 234], second: bool, speech: &mut [i16; 90]) -> bool
+pub fn synthesize(
+    a: &[i16; 11],
+    exc: &[i16; EXC_LENGTH],
+    second: bool,
+    speech: &mut [i16; SPEECH_LENGTH],
+) -> bool
     ensures { λ r. ⌜ r ≡ saturates second (now (a .entry)) (now (exc .entry)) (now (speech .entry)) ⌝ }
     ensures { λ r. ⌜ now (speech .exit) ≡ synthesis second (now (a .entry)) (now (exc .entry)) (now (speech .entry)) ⌝ }
 {
