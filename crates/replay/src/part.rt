@@ -4,7 +4,8 @@ ghost use mathlib.Core.List.{[], _∷_};
 ghost use Prim.Native.Nat.{_+_};
 ghost use lib.ListN.{length};
 ghost use Rattle.basic_op.specs.Ops.{low16};
-ghost use Rattle.laws.specs.Lists.{at, tab};
+ghost use Rattle.laws.specs.Lists.{at};
+ghost use Rattle.block.specs.Block.{part};
 ghost use Rattle.replay.specs.Replay.{byte};
 
 // Word `n` behind place `from`.
@@ -28,13 +29,9 @@ pub fn number(words: &[i16], n: usize) -> u16
 
 // Fills `out` with the words from a place on.
 pub fn fill(words: &[i16], from: usize, out: &mut [i16])
-    ensures { λ r. ⌜ now (out .exit) ≡ tab (length (now (out .entry))) (λ k. at (now (words .entry)) (from + k)) ⌝ }
+    ensures { λ r. ⌜ now (out .exit) ≡ part (now (words .entry)) from (length (now (out .entry))) ⌝ }
 {
-    let mut n = 0;
-    while n < out.len() {
-        out[n] = word(words, from, n);
-        n += 1;
-    }
+    block::words(words, from, out);
 }
 
 // A byte in a word.
