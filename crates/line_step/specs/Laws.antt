@@ -2,8 +2,9 @@
 use mathlib.Core.Path.{_≡_, refl, ap, sym, _∙_}
 use mathlib.Core.Bool.{Bool, true, false, cond}
 use mathlib.Core.List.{List, []}
-use Prim.Native.Nat.{ℕ, _+_, _≤_, _<_}
+use Prim.Native.Nat.{ℕ, _+_, _-_, _≤_, _<_}
 use native.Mathlib.Omega.{arith}
+use native.Mathlib.Nat.{sub-zero}
 use lib.Dec.{eqb, ltb}
 use lib.IntN.{ℤ, pos}
 use lib.ListN.{length, take, replicate}
@@ -13,6 +14,7 @@ use Rattle.count.specs.declared.Counted.{Counted}
 use Rattle.count.specs.declared.Counted.the-variants as Count
 use Rattle.count.specs.Count.{count}
 use Rattle.count.specs.Laws.{refused-some}
+use Rattle.line.specs.declared.Read.{Read}
 use Rattle.line.specs.declared.Read.the-variants as Read
 use Rattle.line.specs.Line as Line
 use Rattle.line.specs.Laws as LineLaws
@@ -21,7 +23,7 @@ use Rattle.decoder.specs.declared.Framed.{Framed}
 use Rattle.decoder.specs.Call as Frame
 use Rattle.decoder.specs.Laws.{frame-refused}
 use Rattle.print.specs.Print.{pcm, over, frame-room}
-use Rattle.print.specs.Laws.{pcm-some, pcm-room}
+use Rattle.print.specs.Laws.{pcm-room}
 use Rattle.line_step.specs.declared.Progress.{Progress}
 use Rattle.line_step.specs.Step.{Job, Step, kept, one-more, with-code, stop, done, framed, counted, frame-step, taken, line-step, answer, given}
 
@@ -60,14 +62,15 @@ module _ (t : List ℤ) (job : Job) (kind : ℕ) (payload : List ℕ) {c : Count
   is-counted e = rw (← hc, e)
 
 -- the operation Line
-module _ (t : List ℤ) (job : Job) (l : List ℕ) {bytes : List ℕ} where
-  pub not-line : {code : ℕ} → Line.answer (Read.Refused code) bytes ≡ Line.line l (replicate 10 0) → line-step t job l ≡ stop job code
+module _ (t : List ℤ) (job : Job) (l : List ℕ) {r : Read} {bytes : List ℕ} where
+  pub not-line : {code : ℕ} → r ≡ Read.Refused code → Line.answer r bytes ≡ Line.line l (replicate 10 0) → line-step t job l ≡ stop job code
   unfolding line-step taken
-  not-line e = rw (← e)
+  not-line h e = rw (← e, h)
 
-  pub is-line : {kind : ℕ} → Line.answer (Read.Frame kind) bytes ≡ Line.line l (replicate 10 0) → line-step t job l ≡ frame-step t job kind (take (payload-length kind) bytes)
+  pub is-line : {kind n : ℕ} → r ≡ Read.Frame kind → Line.answer r bytes ≡ Line.line l (replicate 10 0) → n ≡ payload-length kind
+      → line-step t job l ≡ frame-step t job kind (take (n - 0) bytes)
   unfolding line-step taken
-  is-line e = rw (← e)
+  is-line {n = n} h e k = rw (← e, h, ← k, sub-zero n)
 
 -- ---- what holds of a line, by the ways in which it ends
 
@@ -119,8 +122,12 @@ pub record Sized (s : Step) : Type 0 where
   pub fits : length (s .text) ≤ frame-room
 
 sized-stop : (job : Job) (n : ℕ) → (n ≡ 0 → ⊥) → Sized (stop job n)
-unfolding stop with-code
+unfolding stop
 sized-stop job n h = record { printed = λ e. absurd (h e); silent = λ e. refl; fits = omega arith }
+
+pcm-some : (l : List ℤ) → 0 < length (pcm l)
+unfolding pcm
+pcm-some l = omega arith
 
 sized-done : (job : Job) (next : Counts) (a : Frame.Answer) → Sized (done job next a)
 unfolding done
@@ -143,5 +150,5 @@ abbrev pub Lines : Job → Step → Type 0
 Lines job s = (job .progress .lines ≤ s .job .progress .lines) × (s .job .progress .lines ≤ job .progress .lines + 1)
 
 pub step-lines : (t : List ℤ) (job : Job) (l : List ℕ) → Lines job (line-step t job l)
-unfolding stop with-code done
+unfolding stop done
 step-lines t job l = by-step (Lines job) t job l (λ n h. (omega arith, omega arith)) (λ kind payload next e. more-one (job .progress .lines))

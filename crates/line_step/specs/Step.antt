@@ -33,7 +33,7 @@ pub record Step : Type 0 where
 unfoldable pub one-more : ℕ → ℕ
 one-more n = cond (ltb n 4294967295) (n + 1) n
 
-unfoldable pub with-code : Progress → ℕ → Progress
+abbrev pub with-code : Progress → ℕ → Progress
 with-code p code = record { code = code; lines = p .lines; counts = p .counts }
 
 -- a line that is refused prints nothing, and is neither taken nor counted

@@ -29,7 +29,7 @@ abbrev Refuses : Step → Type 0
 Refuses s = (s .job .progress .code ≡ 0 → ⊥) → refuses (s .job .progress .code) ≡ true
 
 stop-refuses : (job : Job) (n : ℕ) → refuses n ≡ true → Refuses (stop job n)
-unfolding stop with-code
+unfolding stop
 stop-refuses job n e h = e
 
 done-refuses : (job : Job) (a : Frame.Answer) (next : _) → Refuses (done job next a)

@@ -26,7 +26,7 @@ pub record Counting (p : Progress) (s : Step) : Type 0 where
   pub as-was : (s .job .progress .code ≡ 0 → ⊥) → s .job .progress ≡ with-code p (s .job .progress .code)
 
 counting-stop : (job : Job) (n : ℕ) → (n ≡ 0 → ⊥) → Counting (job .progress) (stop job n)
-unfolding stop with-code
+unfolding stop
 counting-stop job n h = record { more = λ e. absurd (h e); as-was = λ e. refl }
 
 counting-done : (job : Job) (kind : ℕ) (next : Counts) (a : Frame.Answer) → count kind (job .progress .counts) ≡ Done next → Counting (job .progress) (done job next a)

@@ -78,7 +78,6 @@ refused-form p held l z = rw (ne-eqb (p .code) 0 z, next-line (p .lines) (omega 
 
 -- a line that is refused leaves the lines as they were
 refused-as-was : (p q : Progress) → Lined p → (q .code ≡ 0 → ⊥) → q ≡ with-code p (q .code) → last-form q [] ≡ refused (q .code) (p .lines + feeds [] + 1)
-unfolding with-code
 refused-as-was p q l z e =
     let n : q .lines ≡ p .lines = ap (λ (x : Progress). x .lines) e in
     let c : q .counts ≡ p .counts = ap (λ (x : Progress). x .counts) e in

@@ -200,7 +200,7 @@ abbrev nine : Job → Job
 nine job = kept (job .block) (with-code (job .progress) 9)
 
 nine-form : (t : List ℤ) (job : Job) (held text : List ℕ) → printed t (nine job) held text ≡ refused 9 (line-number (job .progress))
-unfolding with-code last-form
+unfolding last-form
 nine-form t job held text = printed-ended t (nine job) held text (λ e. omega arith)
 
 long-held : (t : List ℤ) (job : Job) (held text : List ℕ) → job .progress .code ≡ 0 → longest < length held → printed t job held text ≡ refused 9 (line-number (job .progress))
