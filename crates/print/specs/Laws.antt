@@ -33,6 +33,10 @@ pub pcm-room : (l : List ℤ) → length (pcm l) ≤ frame-room
 unfolding pcm
 pcm-room l = simp (length-append, length-words) (omega arith)
 
+pub pcm-some : (l : List ℤ) → 0 < length (pcm l)
+unfolding pcm
+pcm-some l = simp (length-append, length-words) (omega arith)
+
 -- ---- a printed sample read back
 
 -- the number of four digits

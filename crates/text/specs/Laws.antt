@@ -42,17 +42,17 @@ pub one : (lent : List ℕ) (from v r : ℕ) → from < length lent → r ≡ fr
 unfolding written
 one lent from v r h e = record { room = omega arith; place = omega arith; bytes = sets-eq (v ∷ []) lent from (omega arith) }
 
--- four bytes
+-- two bytes, and four
+pub two : (lent : List ℕ) (from m r a b : ℕ) → m ≡ from + 1 → r ≡ from + 2 → r ≤ length lent → Put (a ∷ b ∷ []) from lent r (set (set lent from a) m b)
+two lent from m r a b e f h =
+    let p : Put (a ∷ []) from lent m (set lent from a) = one lent from a m (omega arith) e in
+    then p (one (set lent from a) m b r (omega (arith, kept p)) (omega arith))
+
 pub four : (lent : List ℕ) (from a b c d : ℕ) → from + 4 ≤ length lent
     → Put (a ∷ b ∷ c ∷ d ∷ []) from lent (from + 4) (set (set (set (set lent from a) (from + 1) b) (from + 2) c) (from + 3) d)
 four lent from a b c d h =
-    let l : List ℕ = set lent from a in
-    let m : List ℕ = set l (from + 1) b in
-    let n : List ℕ = set m (from + 2) c in
-    let p : Put (a ∷ []) from lent (from + 1) l = one lent from a (from + 1) (omega arith) refl in
-    let q : Put (b ∷ []) (from + 1) l (from + 2) m = one l (from + 1) b (from + 2) (omega (arith, kept p)) (omega arith) in
-    let r : Put (c ∷ []) (from + 2) m (from + 3) n = one m (from + 2) c (from + 3) (omega (arith, kept p, kept q)) (omega arith) in
-    then (then (then p q) r) (one n (from + 3) d (from + 4) (omega (arith, kept p, kept q, kept r)) (omega arith))
+    let p : Put (a ∷ b ∷ []) from lent (from + 2) (set (set lent from a) (from + 1) b) = two lent from (from + 1) (from + 2) a b refl refl (omega arith) in
+    then p (two _ (from + 2) (from + 3) (from + 4) c d (omega arith) (omega arith) (omega (arith, kept p)))
 
 -- a part copied to a place, as `bytes::copy` leaves the lent bytes from that place on
 pub copied : (s lent v : List ℕ) (from r : ℕ) → from + length s ≤ length lent → r ≡ length s
