@@ -23,7 +23,7 @@ use Rattle.decoder.specs.declared.Framed.{Framed}
 use Rattle.decoder.specs.Call as Frame
 use Rattle.decoder.specs.Laws.{frame-refused}
 use Rattle.print.specs.Print.{pcm, over, frame-room}
-use Rattle.print.specs.Laws.{pcm-room}
+use Rattle.print.specs.Laws.{pcm-some, pcm-room}
 use Rattle.line_step.specs.declared.Progress.{Progress}
 use Rattle.line_step.specs.Step.{Job, Step, kept, one-more, with-code, stop, done, framed, counted, frame-step, taken, line-step, answer, given}
 
@@ -109,7 +109,7 @@ pub by-step : (P : Step → Type 0) (t : List ℤ) (job : Job) (l : List ℕ) �
     → P (line-step t job l)
 by-step P t job l f g =
     by-line P t job l
-    (λ n bytes e. f n (λ z. omega (arith, LineLaws.refused-some l (replicate 10 0) n bytes e)))
+    (λ n bytes e. f n (λ z. omega (arith, LineLaws.refused-some l (replicate 10 0) bytes n e)))
     (λ kind bytes e. by-counted P t job kind _
     (λ n h. f n (λ z. omega (arith, refused-some kind n (job .progress .counts) h)))
     (λ next h. by-framed P job next _ (f _) (λ z. g kind _ next h)))
@@ -124,10 +124,6 @@ pub record Sized (s : Step) : Type 0 where
 sized-stop : (job : Job) (n : ℕ) → (n ≡ 0 → ⊥) → Sized (stop job n)
 unfolding stop
 sized-stop job n h = record { printed = λ e. absurd (h e); silent = λ e. refl; fits = omega arith }
-
-pcm-some : (l : List ℤ) → 0 < length (pcm l)
-unfolding pcm
-pcm-some l = omega arith
 
 sized-done : (job : Job) (next : Counts) (a : Frame.Answer) → Sized (done job next a)
 unfolding done

@@ -189,8 +189,8 @@ lines-act t h most out e =
 long-step : (t : List ℤ) (job : Job) (l : List ℕ) → longest < length l → line-step t job l ≡ stop job 9
 long-step t job l h =
     by-line (λ (s : Step). s ≡ stop job 9) t job l
-    (λ n bytes e. rw (refused-line l (replicate 10 0) n bytes refl e))
-    (λ kind bytes e. absurd (omega (arith, frame-length l (replicate 10 0) kind bytes e)))
+    (λ n bytes e. rw (refused-line l (replicate 10 0) bytes n refl e))
+    (λ kind bytes e. absurd (omega (arith, frame-length l (replicate 10 0) bytes kind e .1)))
 
 open-form : (job : Job) (held : List ℕ) → job .progress .code ≡ 0 → longest < length held → last-of job held ≡ refused 9 (line-number (job .progress))
 unfolding last-form
