@@ -1,8 +1,10 @@
 -- The operation Count (01, "Operations and their refusals"). A call has at most 360,000 frames; those of kinds 1 (SID), 2 (no transmission) and 3 (erased) are counted
 -- as lost, since all three are concealed.
 use mathlib.Core.Bool.{Bool, cond, _||_, _&&_}
-use Prim.Native.Nat.{ℕ, _+_}
+use mathlib.Core.List.{List, [], _∷_}
+use Prim.Native.Nat.{ℕ, _+_, min}
 use lib.Dec.{eqb, leb}
+use lib.ListN.{getD}
 use Rattle.kind.specs.Kind.{known}
 use Rattle.count.specs.declared.Counts.{Counts}
 use Rattle.count.specs.declared.Counted.{Counted}
@@ -35,3 +37,15 @@ count kind c = cond (known kind) (cond (full c) (Refused 10) (Done (with-frame k
 unfoldable pub code : Counted → ℕ
 code (Refused n) = n
 code (Done c) = 0
+
+-- so many frames are counted
+unfoldable pub frames-are : ℕ → Counts → Bool
+frames-are n c = eqb n (c .frames)
+
+-- ---- as numbers of 32 bits, for a file
+
+unfoldable pub numbers : Counts → List ℕ
+numbers c = c .frames ∷ c .lost ∷ []
+
+unfoldable pub of-numbers : List ℕ → Counts
+of-numbers l = record { frames = min (getD l 0 0) 4294967295; lost = min (getD l 1 0) 4294967295 }

@@ -1,16 +1,18 @@
 -- Laws of the counts: what a frame that is counted adds, and which refusals there are. Assumes nothing.
 use mathlib.Core.Path.{_≡_, refl}
 use mathlib.Core.Bool.{Bool, true, false, cond, _||_, _&&_}
-use Prim.Native.Nat.{ℕ, _+_, _≤_, _<_}
+use mathlib.Core.List.{List, []}
+use Prim.Native.Nat.{ℕ, zero, suc, _+_, _^_, _≤_, _<_, min}
 use native.Mathlib.Omega.{arith}
 use lib.Dec.{eqb, leb}
-use borrow.Author.Tests.{le-leb, leb-true, leb-false}
+use lib.ListN.{length, getD}
+use borrow.Author.Tests.{eq-eqb, eqb-true, le-leb, leb-true, leb-false}
 use Rattle.kind.specs.Kind.{known}
 use Rattle.kind.specs.Laws.{low-known}
 use Rattle.count.specs.declared.Counts.{Counts}
 use Rattle.count.specs.declared.Counted.{Counted}
 use Rattle.count.specs.declared.Counted.the-variants.{Refused, Done}
-use Rattle.count.specs.Count.{most, no-counts, full, fits, with-frame, count}
+use Rattle.count.specs.Count.{most, no-counts, full, fits, with-frame, count, frames-are, numbers, of-numbers}
 
 -- counts that are not full
 pub record Room (c : Counts) : Type 0 where
@@ -91,3 +93,40 @@ refused-full kind n c k = rw (low-known kind k) (by (full c))
     by : (q : Bool) → cond q (Refused 10) (Done (with-frame kind c)) ≡ Refused n → n ≡ 10
     by true h = cc
     by false h = let z : _≡_ {A = ℕ} 0 1 = cc in absurd (omega arith)
+
+-- ---- so many frames
+
+pub frames-none : frames-are 0 no-counts ≡ true
+unfolding frames-are no-counts
+frames-none = refl
+
+pub frames-few : (n : ℕ) (c : Counts) → fits c ≡ true → frames-are n c ≡ true → n ≤ most
+unfolding frames-are
+frames-few n c h e = omega (arith, fitting c h .few, eqb-true n (c .frames) e)
+
+pub frames-more : (kind n : ℕ) (c d : Counts) → count kind c ≡ Done d → frames-are n c ≡ true → (frames-are (n + 1) d ≡ true) × (n < most)
+unfolding frames-are
+frames-more kind n c d h e =
+    let m = more kind c d h in
+    let g : n ≡ c .frames = eqb-true n (c .frames) e in
+    (eq-eqb (n + 1) (d .frames) (omega arith), omega arith)
+
+-- ---- as numbers
+
+pub length-numbers : (c : Counts) → length (numbers c) ≡ 2
+unfolding numbers
+length-numbers c = refl
+
+-- counts that fit are numbers of 32 bits, and come back from them
+pub numbers-small : (c : Counts) → fits c ≡ true → (k : ℕ) → getD (numbers c) k 0 < 2 ^ 32
+unfolding numbers
+numbers-small c h zero = omega (arith, fitting c h .few)
+numbers-small c h (suc zero) = omega (arith, fitting c h .few, fitting c h .part)
+numbers-small c h (suc (suc k)) = omega arith
+
+pub numbers-back : (c : Counts) → fits c ≡ true → of-numbers (numbers c) ≡ c
+unfolding of-numbers numbers
+numbers-back c h =
+    let f : min (c .frames) 4294967295 ≡ c .frames = omega (arith, fitting c h .few) in
+    let l : min (c .lost) 4294967295 ≡ c .lost = omega (arith, fitting c h .few, fitting c h .part) in
+    rw (f, l)
