@@ -93,12 +93,12 @@ pub to-end : (l : List ℤ) (out z : List ℕ) (i : ℕ) → z ≡ put l i out �
 unfolding to-bytes put
 to-end l out z i e h = e ∙ rw h
 
--- lent bytes with room for all the words
-pub to-front : (l : List ℤ) (out : List ℕ) → 2 * length l ≤ length out → take (2 * length l) (to-bytes l out) ≡ bytes l
+-- as many bytes as the words have
+pub to-whole : (l : List ℤ) (out : List ℕ) → length out ≡ 2 * length l → to-bytes l out ≡ bytes l
 unfolding to-bytes
-to-front l out h =
+to-whole l out h =
     let n : min (length l) (length out / 2) ≡ length l = omega arith in
-    rw (n, take-all (length l) l (omega arith)) (take-at (bytes l) _ (2 * length l) (length-bytes l))
+    rw (n, take-all (length l) l (omega arith), drop-of-length-le out {i = 2 * length l} (omega arith), append-nil)
 
 -- ---- a number
 

@@ -24,3 +24,7 @@ run c (b ∷ l) = run (byte c b) l
 -- the sum starts with 32 ones and is inverted at the end
 unfoldable pub crc32 : List ℕ → ℕ
 crc32 l = bitXor (run 4294967295 l) 4294967295
+
+-- the sum of l behind the bytes that gave this one
+unfoldable pub more : ℕ → List ℕ → ℕ
+more sum l = bitXor (run (bitXor sum 4294967295) l) 4294967295

@@ -1,8 +1,8 @@
--- `job::crc32::bit` meets its contract.
+-- `crc32::bit` meets its contract.
 use borrow.Author.Tests.{eq-eqb, ne-eqb}
-use Rattle.job.specs.Crc32.{bit}
-use Rattle.job.proofs.crc32.bit.Statement.{statement}
-use Rattle.job.proofs.crc32.bit.Tie as tie
+use Rattle.crc32.specs.Crc32.{bit}
+use Rattle.crc32.proofs.bit.Statement.{statement}
+use Rattle.crc32.proofs.bit.Tie as tie
 
 returns : tie.Need-returns
 unfolding bit

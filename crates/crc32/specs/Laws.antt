@@ -1,20 +1,49 @@
--- No damaged byte of a job file goes unnoticed: a file whose check sum fits, with one byte changed, is refused with 22. Each step of the check sum can be undone, so two
--- sums that differ once differ to the end. Assumes nothing.
+-- Laws of the check sum: its loops, sums of parts, and that two lists that differ in one byte have different sums. Each step can be undone, so two sums that differ once differ
+-- to the end. Assumes nothing.
 use mathlib.Core.Path.{_≡_, refl, sym, ap, _∙_}
 use mathlib.Core.Bool.{Bool, true, false}
-use mathlib.Core.List.{List, [], _∷_}
-use Prim.Native.Nat.{ℕ, zero, suc, _+_, _-_, _*_, _/_, _%_, _^_, _≤_, _<_}
+use mathlib.Core.List.{List, [], _∷_, _++_}
+use mathlib.Core.Logic.{_≢_, _⊎_, inl, inr, ⊎-elim}
+use Prim.Native.Nat.{ℕ, zero, suc, _+_, _*_, _/_, _%_, _^_, _≤_, _<_}
 use native.Mathlib.Omega.{arith}
-use borrow.Author.Tests.{eq-eqb, ne-eqb, eqb-true, eqb-false, ltb-true, ltb-false}
-use mathlib.Core.Logic.{_⊎_, inl, inr, ⊎-elim}
-use lib.Dec.{eqb, ltb, lit<}
-use lib.Bits.{bitXor, differ, xor-step, xor-lt, xor-comm, xor-block}
-use lib.ListN.{length, take, drop, getD, set, length-set, length-take, length-drop}
-use lib.Seq.{take-set-lt, take-set-le, drop-set-lt, drop-set-add, take-all, getD-take, getD-drop}
-use Rattle.words.specs.Words.{number}
-use Rattle.job.specs.Crc32.{bit, bits, byte, run, crc32}
-use Rattle.job.specs.Job.{sum-fits, check}
-use Rattle.job.specs.Laws.{check-sum}
+use native.Mathlib.Numerals.{add-one}
+use borrow.Author.Tests.{eq-eqb, ne-eqb, eqb-true, eqb-false}
+use lib.Dec.{eqb, lit<}
+use lib.Bits.{bitXor, differ, xor-step, xor-lt, xor-comm, xor-block, xor-zero-l, xor-self}
+use lib.ListN.{length, take, getD, set}
+use lib.Seq.{take-suc, take-length}
+use Rattle.words.specs.Words.{Bytes}
+use Rattle.crc32.specs.Crc32.{bit, bits, byte, run, crc32, more}
+
+-- ---- the loops of the check sum
+
+pub bits-none : (x : ℕ) → x ≡ bits 0 x
+unfolding bits
+bits-none x = refl
+
+pub bits-more : (i x₀ x y : ℕ) → x ≡ bits i x₀ → y ≡ bit x → y ≡ bits (i + 1) x₀
+unfolding bits
+bits-more i x₀ x y e g = rw (add-one, ← e) g
+
+pub bits-end : (i c b x : ℕ) → x ≡ bits i (bitXor c b) → i ≡ 8 → x ≡ byte c b
+unfolding byte
+bits-end i c b x e h = e ∙ rw h
+
+pub run-none : (c : ℕ) (l : List ℕ) → c ≡ run c (take 0 l)
+unfolding run
+run-none c l = refl
+
+run-last : (c : ℕ) (l : List ℕ) (b : ℕ) → run c (l ++ (b ∷ [])) ≡ byte (run c l) b
+unfolding run
+run-last c [] b = refl
+run-last c (x ∷ l) b = run-last (byte c x) l b
+
+pub run-more : (c : ℕ) (l : List ℕ) (i x y : ℕ) → i < length l → x ≡ run c (take i l) → y ≡ byte x (getD l i 0) → y ≡ run c (take (i + 1) l)
+run-more c l i x y h e g = rw (add-one, take-suc l i 0 h, run-last, ← e) g
+
+pub run-end : (sum : ℕ) (l : List ℕ) (i x : ℕ) → i ≡ length l → x ≡ run (bitXor sum 4294967295) (take i l) → bitXor x 4294967295 ≡ more sum l
+unfolding more
+run-end sum l i x h e = rw (e, h, take-length)
 
 -- ---- a step of the check sum undone
 
@@ -117,9 +146,6 @@ byte-inj-r c a b h k i e =
 
 -- ---- a list of bytes
 
-abbrev pub Bytes : List ℕ → Type 0
-Bytes l = (k : ℕ) → getD l k 0 < 256
-
 run-inj : (l : List ℕ) (c d : ℕ) → Bytes l → c < 2 ^ 32 → d < 2 ^ 32 → run c l ≡ run d l → c ≡ d
 unfolding run
 run-inj [] c d a h k e = e
@@ -147,50 +173,32 @@ pub crc32-set : (l : List ℕ) (k v : ℕ) → Bytes l → k < length l → v < 
 unfolding crc32
 crc32-set l k v a h j e = run-set l 4294967295 k v a (lit< tt) h j (xor-inj _ _ 4294967295 e)
 
-number-set : (l : List ℕ) (k v : ℕ) → Bytes l → k < length l → v < 256 → number (set l k v) ≡ number l → v ≡ getD l k 0
-unfolding number
-number-set [] k v a h j e = absurd (omega arith)
-number-set (b ∷ l) zero v a h j e = omega arith
-number-set (b ∷ l) (suc k) v a h j e = number-set l k v (λ n. a (suc n)) (omega arith) j (omega arith)
+-- a byte changed gives another sum
+pub other-byte : (l : List ℕ) (k v : ℕ) → Bytes l → k < length l → v < 256 → (v ≡ getD l k 0 → ⊥) → crc32 l ≢ crc32 (set l k v)
+other-byte l k v a h j d e = d (crc32-set l k v a h j (sym e))
 
--- ---- a file
+-- ---- sums of parts
 
-bytes-take : (n : ℕ) (l : List ℕ) → Bytes l → Bytes (take n l)
-bytes-take zero l a k = omega arith
-bytes-take (suc n) [] a k = a k
-bytes-take (suc n) (b ∷ l) a zero = a 0
-bytes-take (suc n) (b ∷ l) a (suc k) = bytes-take n l (λ i. a (suc i)) k
+-- a difference taken twice
+xor-back : (n a k : ℕ) → a ≤ n → bitXor (bitXor a k) k ≡ a
+xor-back zero a k h =
+    let z : a ≡ 0 = omega arith in
+    ap (λ (x : ℕ). bitXor (bitXor x k) k) z ∙ ap (λ (x : ℕ). bitXor x k) (xor-zero-l k) ∙ xor-self k ∙ sym z
+xor-back (suc n) a k h =
+    let x : ℕ = bitXor a k in
+    let s : x ≡ bitXor (a / 2) (k / 2) * 2 + differ (a % 2) (k % 2) = xor-step a k in
+    let d : differ (a % 2) (k % 2) ≡ (a % 2 + k % 2) % 2 = differ-is (a % 2) (k % 2) (omega arith) (omega arith) in
+    let q : x / 2 ≡ bitXor (a / 2) (k / 2) = omega arith in
+    let t : bitXor x k ≡ bitXor (x / 2) (k / 2) * 2 + differ (x % 2) (k % 2) = xor-step x k in
+    let u : bitXor (x / 2) (k / 2) ≡ a / 2 = ap (λ (y : ℕ). bitXor y (k / 2)) q ∙ xor-back n (a / 2) (k / 2) (omega arith) in
+    let v : differ (x % 2) (k % 2) ≡ (x % 2 + k % 2) % 2 = differ-is (x % 2) (k % 2) (omega arith) (omega arith) in
+    omega arith
 
-bytes-drop : (n : ℕ) (l : List ℕ) → Bytes l → Bytes (drop n l)
-bytes-drop n l a k = rw getD-drop (a (n + k))
+run-append : (c : ℕ) (l m : List ℕ) → run c (l ++ m) ≡ run (run c l) m
+unfolding run
+run-append c [] m = refl
+run-append c (b ∷ l) m = run-append (byte c b) l m
 
-module _ (f : List ℕ) (k v : ℕ) (a : Bytes f) (n : length f ≡ 492) (h : k < 492) (j : v < 256) (d : v ≡ getD f k 0 → ⊥) (s : sum-fits f ≡ true) where
-  sum : number (take 4 (drop 488 f)) ≡ crc32 (take 488 f)
-  unfolding sum-fits
-  sum = eqb-true _ _ s
-
-  -- before the sum
-  below : k < 488 → sum-fits (set f k v) ≡ false
-  unfolding sum-fits
-  below i =
-      rw (take-set-lt 488 f k v i, drop-set-lt 488 f k v i)
-      (ne-eqb (number (take 4 (drop 488 f))) (crc32 (set (take 488 f) k v)) (λ e. d (crc32-set (take 488 f) k v (bytes-take 488 f a) (rw length-take (omega arith)) j (sym e ∙ sum) ∙ getD-take 488 f k 0 i)))
-
-  -- in the sum
-  above : 488 ≤ k → sum-fits (set f k v) ≡ false
-  unfolding sum-fits
-  above i =
-      let m : 488 + (k - 488) ≡ k = omega arith in
-      let g : drop 488 (set f k v) ≡ set (drop 488 f) (k - 488) v = ap (λ (i : ℕ). drop 488 (set f i v)) (sym m) ∙ drop-set-add 488 f (k - 488) v in
-      let t : take 4 (set (drop 488 f) (k - 488) v) ≡ set (drop 488 f) (k - 488) v = take-all 4 _ (simp (length-set, length-drop) (omega arith)) in
-      let u : take 4 (drop 488 f) ≡ drop 488 f = take-all 4 _ (simp length-drop (omega arith)) in
-      rw (take-set-le 488 f k v i, g, t)
-      (ne-eqb (number (set (drop 488 f) (k - 488) v)) (crc32 (take 488 f)) (λ e. d (number-set (drop 488 f) (k - 488) v (bytes-drop 488 f a) (simp length-drop (omega arith)) j (e ∙ sym sum ∙ ap number u) ∙ getD-drop 488 f (k - 488) 0 ∙ ap (λ (i : ℕ). getD f i 0) m)))
-
-  -- 22, whichever byte it is and whichever tables are at hand
-  pub damaged : (tables : ℕ) → check (set f k v) tables ≡ 22
-  damaged tables = sym (check-sum (set f k v) tables (length-set f k v ∙ n) (by (ltb k 488) refl))
-    where
-      by : (t : Bool) → ltb k 488 ≡ t → sum-fits (set f k v) ≡ false
-      by true e = below (ltb-true _ _ e)
-      by false e = above (ltb-false _ _ e)
+pub crc32-append : (l m : List ℕ) → more (crc32 l) m ≡ crc32 (l ++ m)
+unfolding more crc32
+crc32-append l m = rw (xor-back (run 4294967295 l) (run 4294967295 l) 4294967295 (omega arith), run-append)

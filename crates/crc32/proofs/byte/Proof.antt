@@ -1,12 +1,12 @@
--- `job::crc32::byte` meets its contract: before turn i, i bits are out.
+-- `crc32::byte` meets its contract: before turn i, i bits are out.
 use Prim.Native.Nat.{_-_, _≤_}
 use mathlib.Core.Path.{_≡_}
 use native.Mathlib.Omega.{arith}
 use borrow.Author.Needs.{needs}
-use Rattle.job.specs.Crc32.{bits}
-use Rattle.job.specs.Laws.{bits-none, bits-more, bits-end}
-use Rattle.job.proofs.crc32.byte.Statement.{statement}
-use Rattle.job.proofs.crc32.byte.Tie as tie
+use Rattle.crc32.specs.Crc32.{bits}
+use Rattle.crc32.specs.Laws.{bits-none, bits-more, bits-end}
+use Rattle.crc32.proofs.byte.Statement.{statement}
+use Rattle.crc32.proofs.byte.Tie as tie
 
 abbrev Inv-loop : tie.InvT-loop
 Inv-loop c b x₀ i₀ x i = (i ≤ 8) × (x ≡ bits i x₀)
