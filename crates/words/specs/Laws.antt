@@ -289,13 +289,13 @@ put-whole (w ∷ ws) (v ∷ vs) out h k =
 -- numbers that have room in their widths, none of more than eight bytes
 pub data Fit : List ℕ → List ℕ → Type 0 where
   none : Fit [] []
-  more : {w v : ℕ} {ws vs : List ℕ} → w ≤ 8 → v < 256 ^ w → Fit ws vs → Fit (w ∷ ws) (v ∷ vs)
+  more : (w v : ℕ) {ws vs : List ℕ} → w ≤ 8 → v < 256 ^ w → Fit ws vs → Fit (w ∷ ws) (v ∷ vs)
 
 -- what was written is read back, whatever lies behind it
 pub numbers-back : (ws vs l : List ℕ) → Fit ws vs → numbers ws (numbers-bytes ws vs ++ l) ≡ vs
 unfolding numbers numbers-bytes
 numbers-back [] [] l none = refl
-numbers-back (w ∷ ws) (v ∷ vs) l (more h k f) =
+numbers-back (w ∷ ws) (v ∷ vs) l (more _ _ h k f) =
     let n : length (number-bytes w v) ≡ w = length-number-bytes w v in
     rw (append-assoc, take-at (number-bytes w v) (numbers-bytes ws vs ++ l) w n, drop-at (number-bytes w v) (numbers-bytes ws vs ++ l) w n, take-all 8 (number-bytes w v) (omega arith), number-back w v k, numbers-back ws vs l f)
 

@@ -1,0 +1,3 @@
+-- Theorems on jobs that are stopped and resumed.
+pub mod Back
+pub mod Damage
