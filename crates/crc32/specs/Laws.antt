@@ -199,6 +199,18 @@ unfolding run
 run-append c [] m = refl
 run-append c (b ∷ l) m = run-append (byte c b) l m
 
+pub more-none : (s : ℕ) → more s [] ≡ s
+unfolding more run
+more-none s = xor-back s s 4294967295 (omega arith)
+
+pub more-append : (s : ℕ) (l m : List ℕ) → more (more s l) m ≡ more s (l ++ m)
+unfolding more
+more-append s l m = rw (xor-back (run (bitXor s 4294967295) l) (run (bitXor s 4294967295) l) 4294967295 (omega arith), run-append)
+
+-- the sum of none is 0
+pub crc32-more : (l : List ℕ) → crc32 l ≡ more 0 l
+unfolding crc32 more
+crc32-more l = refl
+
 pub crc32-append : (l m : List ℕ) → more (crc32 l) m ≡ crc32 (l ++ m)
-unfolding more crc32
-crc32-append l m = rw (xor-back (run 4294967295 l) (run 4294967295 l) 4294967295 (omega arith), run-append)
+crc32-append l m = rw (crc32-more l, crc32-more (l ++ m)) (more-append 0 l m)

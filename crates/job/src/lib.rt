@@ -1,5 +1,6 @@
 // Jobs that are stopped and resumed: the job file, which is written aside and renamed, and where a resumed job reads and writes.
 pub mod names;
+pub mod parts;
 
 ghost use mathlib.Core.Path.{_≡_};
 ghost use mathlib.Core.List.{_++_};
