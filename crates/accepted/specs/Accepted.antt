@@ -1,13 +1,13 @@
 -- A frame leaves an accepted state (01, "Operations and their refusals", Frame): its predictor and its delay are in range, so no later call is refused for the state. Assumes nothing.
-use Prim.Native.Nat.{ℕ, _%_, _<_}
+use Prim.Native.Nat.{ℕ, zero, suc, _%_, _<_}
 use mathlib.Core.Path.{_≡_, refl}
-use mathlib.Core.Bool.{Bool, true, false, cond, _&&_}
+use mathlib.Core.Bool.{_&&_}
 use mathlib.Core.List.{List}
 use native.Mathlib.Omega.{arith}
 use native.Mathlib.Nat.{mod-lt}
-use lib.Dec.{T, eqb, leb, lit<}
+use lib.Dec.{T, leb, lit<}
+use lib.Ieee.Bits.{is-true}
 use lib.IntN.{ℤ, pos, negsuc}
-use lib.ListN.{length}
 use lib.Signed.{leZ}
 use mir.Facts.{and-yes, yes-and, leb-yes, yes-leb}
 use Rattle.adaptive.specs.Adaptive.{parity-ok, first, second, erased}
@@ -20,7 +20,8 @@ use Rattle.state.specs.State.{State, read-params, read, write, delay-in-range, 
 use Rattle.state.specs.Laws.{read-sized, accepted-write, accepted-of-check, check-of-accepted, accepted-parts}
 use Rattle.parameters.specs.Parameters.{voice, conceal, parameters}
 use Rattle.decoder.specs.Frame.{decode}
-use Rattle.decoder.specs.Call.{refusal, answer, frame}
+use Rattle.decoder.specs.Call.{number, block, frame}
+use Rattle.decoder.specs.Laws.{frame-done, frame-refused}
 use Rattle.accepted.specs.Lengths.{sized-after}
 
 wider : (z : ℤ) → T (leZ (pos 19) z && leZ z (pos 143)) → T (delay-in-range z)
@@ -61,31 +62,17 @@ module _ (p : Params) (ok : T (accepted p)) where
 
 -- ---- blocks
 
-T-true : (b : Bool) → T b → b ≡ true
-T-true true x = refl
-T-true false x = absurd x
-
 pub decode-accepted : (t : List ℤ) (d : Decision) (b : List ℤ) → state-check b ≡ 0 → state-check (write (decode t d (read b) .state)) ≡ 0
 unfolding decode read
 decode-accepted t d b h =
     let s : State = decode t d (read b) .state in
     let ok : T (accepted (read-params b)) = rw (accepted-parts b (accepted-of-check b h) .1) tt in
-    check-of-accepted (write s) (accepted-write s (sized-after t (read b) (read-sized b) d) (T-true (accepted (s .params)) (accepted-after-frame (read-params b) ok t d)))
+    check-of-accepted (write s) (accepted-write s (sized-after t (read b) (read-sized b) d) (is-true (accepted (s .params)) (accepted-after-frame (read-params b) ok t d)))
 
 -- whatever a frame call answers
-pub frame-accepted : (t b : List ℤ) (kind : ℕ) (payload : List ℕ) (out : List ℤ) {n : ℕ} {b′ samples : List ℤ} → answer n b′ samples ≡ frame t b kind payload out
-    → state-check b ≡ 0 → state-check b′ ≡ 0
-unfolding frame
-frame-accepted t b kind payload out {n} {b′} {samples} e h = by (eqb (refusal t b kind payload (length out)) 0) e
+pub frame-accepted : (t b : List ℤ) (kind : ℕ) (payload : List ℕ) (out : List ℤ) → state-check b ≡ 0 → state-check (block (frame t b kind payload out)) ≡ 0
+frame-accepted t b kind payload out h = go (number (frame t b kind payload out)) refl
   where
-    after : State
-    after = decode t (decide kind payload) (read b) .state
-
-    by : (p : Bool) → answer n b′ samples ≡ cond p (answer 0 (write after) (decode t (decide kind payload) (read b) .samples)) (answer (refusal t b kind payload (length out)) b out)
-        → state-check b′ ≡ 0
-    by true g =
-        let w : b′ ≡ write after = cc in
-        rw w (decode-accepted t (decide kind payload) b h)
-    by false g =
-        let w : b′ ≡ b = cc in
-        rw w h
+    go : (k : ℕ) → number (frame t b kind payload out) ≡ k → state-check (block (frame t b kind payload out)) ≡ 0
+    go zero e = rw (frame-done t b kind payload out e .0) (decode-accepted t (decide kind payload) b h)
+    go (suc k) e = rw (frame-refused t b kind payload out (λ z. omega arith) .0) h

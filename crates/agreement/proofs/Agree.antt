@@ -1,10 +1,10 @@
 -- Two decoders on one list of voice frames: which parts of their parameters are equal after n frames, and so which values of the frames are.
 use Prim.Native.Nat.{ℕ, zero, suc, _+_, _-_, _≤_}
 use mathlib.Core.Path.{_≡_, refl, sym, ap, ap₂, _∙_, subst}
-use mathlib.Core.Bool.{Bool, true, false}
 use mathlib.Core.List.{List, [], _∷_, map}
 use native.Mathlib.Omega.{arith}
-use lib.Dec.{T, eqb·suc-zero}
+use lib.Dec.{T}
+use lib.Ieee.Bits.{is-true}
 use lib.IntN.{ℤ}
 use lib.ListN.{drop, take}
 use Rattle.laws.specs.Lists.{at}
@@ -24,7 +24,7 @@ use Rattle.decoder.specs.Frame.{Buffers, frame-signal, decode}
 use Rattle.agreement.specs.Demand.{Call, FrameValues, delays, pitch-gains, fixed-gains, frequencies, filters, signal-before, samples, All, VoiceWith, PassesParity, DelaysInRange, Alike, Agreement}
 use Rattle.accepted.specs.Accepted.{accepted-after-frame}
 use Rattle.agreement.proofs.Ranges.{delays-good}
-use Rattle.agreement.specs.Run.{code, frame-of, values-of, run}
+use Rattle.agreement.specs.Run.{taken, frame-of, values-of, run}
 use Rattle.agreement.proofs.Runs.{accepted-params, answers-are, frames-are}
 
 -- ---- what is equal after n frames
@@ -56,17 +56,13 @@ module _ (t : List ℤ) (f : SpeechParams) {n : ℕ} {p q : Params} (h : Agree n
   w : Decoded
   w = voice t f q
 
-  passing : (b : Bool) → T b → b ≡ true
-  passing true x = refl
-  passing false x = absurd x
-
   -- the first delay is the carried one only if parity fails
   tracked : adaptive.first (p .pitch .old) (f .p1) (adaptive.parity-ok (f .p1) (f .p0)) ≡ adaptive.first (q .pitch .old) (f .p1) (adaptive.parity-ok (f .p1) (f .p0))
   unfolding adaptive.first
   tracked = go n refl
     where
       go : (k : ℕ) → n ≡ k → adaptive.first (p .pitch .old) (f .p1) (adaptive.parity-ok (f .p1) (f .p0)) ≡ adaptive.first (q .pitch .old) (f .p1) (adaptive.parity-ok (f .p1) (f .p0))
-      go zero e = rw (passing (adaptive.parity-ok (f .p1) (f .p0)) (first e))
+      go zero e = rw (is-true (adaptive.parity-ok (f .p1) (f .p0)) (first e))
       go (suc k) e = ap (λ (d : ℤ). adaptive.first d (f .p1) (adaptive.parity-ok (f .p1) (f .p0))) (h .old (omega arith))
 
   same-delays : (v .first .delay ≡ w .first .delay) × (v .second .delay ≡ w .second .delay)
@@ -197,29 +193,15 @@ module _ (n : ℕ) (c : Call) (k : c .kind ≡ 0) (a b : State) (h : Agree n (a 
   unfolding frame-of decode
   signal-after l e = let x = buffers-now l e in λ i. record { past = drop 80 (x i .exc); tail = drop 80 (x i .speech) }
 
--- ---- the run of a list, a call at a time
+-- ---- the run of a list of voice frames
 
-module _ (c : Call) (cs : List Call) (s : State) where
-  run-frame : code c ≡ 0 → run (c ∷ cs) s ≡ values-of c s ∷ run cs (frame-of c s .state)
-  unfolding run
-  run-frame e = rw e
-
-  run-none : (k : ℕ) → code c ≡ suc k → run (c ∷ cs) s ≡ run cs s
-  unfolding run
-  run-none k e = rw (e, eqb·suc-zero)
-
--- a call that returns 0 is a voice frame
-Voices : List Call → Type 0
-Voices cs = All (λ c. code c ≡ 0 → c .kind ≡ 0) cs
+abbrev Voices : List Call → Type 0
+Voices cs = All (λ c. c .kind ≡ 0) cs
 
 voices : (t : List ℤ) (cs : List Call) (s : State) → All (VoiceWith t) (run cs s) → Voices cs
-unfolding Voices values-of run
+unfolding values-of run
 voices t [] s h = tt
-voices t (c ∷ cs) s h = go (code c) refl (voices t cs (frame-of c s .state)) (voices t cs s)
-  where
-    go : (k : ℕ) → code c ≡ k → (All (VoiceWith t) (run cs (frame-of c s .state)) → Voices cs) → (All (VoiceWith t) (run cs s) → Voices cs) → Voices (c ∷ cs)
-    go zero z r u = let x = subst (All (VoiceWith t)) (run-frame c cs s z) h in (λ e. x .0 .0, r (x .1))
-    go (suc k) z r u = (λ e. absurd (omega arith), u (subst (All (VoiceWith t)) (run-none c cs s k z) h))
+voices t (c ∷ cs) s h = (h .0 .0, voices t cs _ (h .1))
 
 -- ---- ranges
 
@@ -232,31 +214,9 @@ unfolding frame-of decode
 good-after c s ok = accepted-after-frame (s .params) ok (c .tables) _
 
 in-range : (cs : List Call) (s : State) → Voices cs → T (accepted (s .params)) → All DelaysInRange (run cs s)
-unfolding Voices run
+unfolding run
 in-range [] s h ok = tt
-in-range (c ∷ cs) s h ok = go (code c) refl (in-range cs (frame-of c s .state) (h .1) (good-after c s ok)) (in-range cs s (h .1) ok)
-  where
-    go : (k : ℕ) → code c ≡ k → All DelaysInRange (run cs (frame-of c s .state)) → All DelaysInRange (run cs s) → All DelaysInRange (run (c ∷ cs) s)
-    go zero z r u = rw (run-frame c cs s z) (good c s (h .0 z) ok, r)
-    go (suc k) z r u = rw (run-none c cs s k z) u
-
--- ---- samples, once the signal is equal
-
-heard : (n : ℕ) → 5 ≤ n → (cs : List Call) (a b : State) → Voices cs → Agree n (a .params) (b .params) → a .signal ≡ b .signal → map samples (run cs a) ≡ map samples (run cs b)
-unfolding Voices run
-heard n l [] a b h g e = refl
-heard n l (c ∷ cs) a b h g e =
-    go (code c) refl
-    (λ k. heard (suc n) (omega arith) cs (frame-of c a .state) (frame-of c b .state) (h .1) (agree-after n c k a b g past-first) (signal-after n c k a b g past-first l e))
-    (heard n l cs a b (h .1) g e)
-  where
-    past-first : n ≡ 0 → PassesParity (values-of c a)
-    past-first z = absurd (omega arith)
-
-    go : (m : ℕ) → code c ≡ m → (c .kind ≡ 0 → map samples (run cs (frame-of c a .state)) ≡ map samples (run cs (frame-of c b .state))) → map samples (run cs a) ≡ map samples (run cs b)
-        → map samples (run (c ∷ cs) a) ≡ map samples (run (c ∷ cs) b)
-    go zero z r u = rw (run-frame c cs a z, run-frame c cs b z) (ap₂ _∷_ (samples-now n c (h .0 z) a b g past-first l e) (r (h .0 z)))
-    go (suc m) z r u = rw (run-none c cs a m z, run-none c cs b m z) u
+in-range (c ∷ cs) s h ok = (good c s (h .0) ok, in-range cs _ (h .1) (good-after c s ok))
 
 -- ---- the frames that follow n frames
 
@@ -282,13 +242,9 @@ record Rest (n : ℕ) (vs ws : List FrameValues) : Type 0 where
   filters : Later 5 n filters vs ws
   samples : (m : ℕ) → 5 ≤ n + m → map signal-before (take 1 (drop m vs)) ≡ map signal-before (take 1 (drop m ws)) → map samples (drop m vs) ≡ map samples (drop m ws)
 
-front : List Signal → Signal
-front [] = record { past = []; tail = [] }
-front (x ∷ l) = x
-
 one-call : (n : ℕ) (c : Call) (k : c .kind ≡ 0) (a b : State) (vs ws : List FrameValues) → Agree n (a .params) (b .params) → (n ≡ 0 → PassesParity (values-of c a))
     → (5 ≤ n → a .signal ≡ b .signal → map samples vs ≡ map samples ws) → Rest (suc n) vs ws → Rest n (values-of c a ∷ vs) (values-of c b ∷ ws)
-unfolding values-of front
+unfolding values-of
 one-call n c k a b vs ws h first loud r =
     let x = values-of c a in
     let y = values-of c b in
@@ -303,31 +259,27 @@ one-call n c k a b vs ws h first loud r =
   where
     same : (m : ℕ) → 5 ≤ n + m → map signal-before (take 1 (drop m (values-of c a ∷ vs))) ≡ map signal-before (take 1 (drop m (values-of c b ∷ ws)))
         → map samples (drop m (values-of c a ∷ vs)) ≡ map samples (drop m (values-of c b ∷ ws))
-    same zero l e = let s = ap front e in ap₂ _∷_ (samples-now n c k a b h first (omega arith) s) (loud (omega arith) s)
+    same zero l e = let s : a .signal ≡ b .signal = cc in ap₂ _∷_ (samples-now n c k a b h first (omega arith) s) (loud (omega arith) s)
     same (suc m) l e = r .samples m (omega arith) e
 
 -- frame 1 is among those that follow only where n is 0
 First : ℕ → List FrameValues → Type 0
 First n vs = n ≡ 0 → All PassesParity (take 1 vs)
 
+-- the first frame of a run has the signal before it
+begins : (cs : List Call) (a b : State) → a .signal ≡ b .signal → map signal-before (take 1 (run cs a)) ≡ map signal-before (take 1 (run cs b))
+unfolding run values-of
+begins [] a b e = refl
+begins (c ∷ cs) a b e = ap (λ (s : Signal). s ∷ []) e
+
 rest : (n : ℕ) (cs : List Call) (a b : State) → Voices cs → Agree n (a .params) (b .params) → First n (run cs a) → Rest n (run cs a) (run cs b)
-unfolding Voices run First
+unfolding run First
 rest n [] a b h g first = record { delays = refl; pitch = refl; fixed = refl; lsf = refl; filters = refl; samples = λ m l e. refl }
 rest n (c ∷ cs) a b h g first =
-    go (code c) refl
-    (λ k p. rest (suc n) cs (frame-of c a .state) (frame-of c b .state) (h .1) (agree-after n c k a b g p) (λ z. absurd (omega arith)))
-    (λ p. rest n cs a b (h .1) g p)
-  where
-    go : (m : ℕ) → code c ≡ m
-        → (c .kind ≡ 0 → (n ≡ 0 → PassesParity (values-of c a)) → Rest (suc n) (run cs (frame-of c a .state)) (run cs (frame-of c b .state)))
-        → (First n (run cs a) → Rest n (run cs a) (run cs b))
-        → Rest n (run (c ∷ cs) a) (run (c ∷ cs) b)
-    go zero z r u =
-        let k = h .0 z in
-        let p : n ≡ 0 → PassesParity (values-of c a) = λ e. (rw (run-frame c cs a z) at (first e)) .0 in
-        rw (run-frame c cs a z, run-frame c cs b z)
-        (one-call n c k a b _ _ g p (λ l e. heard (suc n) (omega arith) cs (frame-of c a .state) (frame-of c b .state) (h .1) (agree-after n c k a b g p) (signal-after n c k a b g p l e)) (r k p))
-    go (suc m) z r u = rw (run-none c cs a m z, run-none c cs b m z) (u (λ e. rw (run-none c cs a m z) at (first e)))
+    let k = h .0 in
+    let p : n ≡ 0 → PassesParity (values-of c a) = λ e. first e .0 in
+    let r = rest (suc n) cs (frame-of c a .state) (frame-of c b .state) (h .1) (agree-after n c k a b g p) (λ z. absurd (omega arith)) in
+    one-call n c k a b _ _ g p (λ l e. r .samples 0 (omega arith) (begins cs _ _ (signal-after n c k a b g p l e))) r
 
 -- ---- the claim on blocks
 
@@ -338,9 +290,9 @@ agreement tables cs a b k =
     let at-b = k .handed .start-b in
     let x = frames-are cs a at-a in
     let y = frames-are cs b at-b in
-    let h = voices tables cs (read a) (subst (All (VoiceWith tables)) x (k .handed .voice)) in
-    let first : First 0 (run cs (read a)) = λ e. subst (λ (l : List FrameValues). All PassesParity (take 1 l)) x (k .parity) in
-    let r = rest 0 cs (read a) (read b) h (at-start (read a .params) (read b .params)) first in
+    let h = voices tables (taken cs) (read a) (subst (All (VoiceWith tables)) x (k .handed .voice)) in
+    let first : First 0 (run (taken cs) (read a)) = λ e. subst (λ (l : List FrameValues). All PassesParity (take 1 l)) x (k .parity) in
+    let r = rest 0 (taken cs) (read a) (read b) h (at-start (read a .params) (read b .params)) first in
     record {
       answered = answers-are cs a at-a ∙ sym (answers-are cs b at-b);
       delays-from-1 = rw (x, y) (r .delays);
@@ -349,5 +301,5 @@ agreement tables cs a b k =
       frequencies-from-5 = rw (x, y) (r .lsf);
       filters-from-6 = rw (x, y) (r .filters);
       samples-from-6 = rw (x, y) (λ n l e. r .samples (n - 1) (omega arith) e);
-      in-range = (rw x (in-range cs (read a) h (accepted-params a at-a)), rw y (in-range cs (read b) h (accepted-params b at-b)));
+      in-range = (rw x (in-range (taken cs) (read a) h (accepted-params a at-a)), rw y (in-range (taken cs) (read b) h (accepted-params b at-b)));
     }

@@ -30,5 +30,5 @@ unfolding Operators tables.row tables.log2 tables.scalar tables.table-check form
 Stages = Unit {0}
 
 unfoldable pub Run : Type 0
-unfolding Stages kind.payload-length plc.decide state.part state.read-params state.read-signal state.read state.delay-in-range state.predictor-in-range state.accepted state.state-check state.accepted-state parameters.sharpened parameters.subframe parameters.voice parameters.parameters decoder.decode call.input-check runs.code runs.frame-of runs.values-of runs.run
+unfolding Stages kind.payload-length plc.decide state.part state.read-params state.read-signal state.read state.delay-in-range state.predictor-in-range state.accepted state.state-check state.accepted-state parameters.sharpened parameters.subframe parameters.voice parameters.parameters decoder.decode call.first-of call.input-check runs.code runs.taken runs.frame-of runs.values-of runs.run
 Run = Unit {0}

@@ -10,7 +10,7 @@ use lib.ListN.{take, replicate}
 use Rattle.laws.specs.Lists.{at}
 use Rattle.state.specs.State.{read}
 use Rattle.agreement.specs.Demand.{Call, FrameValues, frames, only, delays, fixed-gains, frequencies, filters, All, VoiceWith, PassesParity, Handed, Alike, words, octets, Real, Differ, Demand3, ParityNeeded}
-use Rattle.agreement.specs.Run.{run}
+use Rattle.agreement.specs.Run.{taken, run}
 use Rattle.agreement.proofs.Runs.{frames-are}
 use Rattle.agreement.proofs.Agree.{agreement}
 use Rattle.agreement.proofs.Compute.{Run}
@@ -57,7 +57,7 @@ alike =
     v : (call .kind ≡ 0) × (call .tables ≡ tables)
     v = (refl, refl)
 
-    on-run : (P : List FrameValues → Type 0) → P (run calls (read left)) → P (frames calls left)
+    on-run : (P : List FrameValues → Type 0) → P (run (taken calls) (read left)) → P (frames calls left)
     on-run P x = subst P (sym (frames-are calls left tt)) x
 
 real : Real tables calls left right
@@ -66,30 +66,30 @@ real = record { tables = tt; state-a = tt; state-b = tt; payloads = (tt, (tt, (t
 
 -- ---- the values that differ, on the run that computes no samples
 
-gains-left : only 2 fixed-gains (run calls (read left)) ≡ (pos 4, pos 4) ∷ []
+gains-left : only 2 fixed-gains (run (taken calls) (read left)) ≡ (pos 4, pos 4) ∷ []
 unfolding Run Shown
 gains-left = refl
 
-gains-right : only 2 fixed-gains (run calls (read right)) ≡ (pos 7510, pos 269) ∷ []
+gains-right : only 2 fixed-gains (run (taken calls) (read right)) ≡ (pos 7510, pos 269) ∷ []
 unfolding Run Shown
 gains-right = refl
 
-lsf-left : only 4 frequencies (run calls (read left)) ≡ (pos 0 ∷ pos 0 ∷ pos 0 ∷ pos 0 ∷ pos 0 ∷ pos 0 ∷ pos 0 ∷ pos 0 ∷ pos 0 ∷ pos 0 ∷ []) ∷ []
+lsf-left : only 4 frequencies (run (taken calls) (read left)) ≡ (pos 0 ∷ pos 0 ∷ pos 0 ∷ pos 0 ∷ pos 0 ∷ pos 0 ∷ pos 0 ∷ pos 0 ∷ pos 0 ∷ pos 0 ∷ []) ∷ []
 unfolding Run Shown
 lsf-left = refl
 
-lsf-right : only 4 frequencies (run calls (read right)) ≡ (pos 0 ∷ pos 0 ∷ pos 0 ∷ pos 0 ∷ pos 0 ∷ pos 0 ∷ pos 0 ∷ pos 0 ∷ pos 0 ∷ pos 32766 ∷ []) ∷ []
+lsf-right : only 4 frequencies (run (taken calls) (read right)) ≡ (pos 0 ∷ pos 0 ∷ pos 0 ∷ pos 0 ∷ pos 0 ∷ pos 0 ∷ pos 0 ∷ pos 0 ∷ pos 0 ∷ pos 32766 ∷ []) ∷ []
 unfolding Run Shown
 lsf-right = refl
 
-filters-left : only 5 filters (run calls (read left)) ≡ (
+filters-left : only 5 filters (run (taken calls) (read left)) ≡ (
   (pos 4096 ∷ pos 24579 ∷ negsuc 12307 ∷ pos 0 ∷ pos 0 ∷ pos 0 ∷ pos 0 ∷ pos 16419 ∷ negsuc 22502 ∷ pos 24579 ∷ pos 4096 ∷ []),
   (pos 4096 ∷ pos 24577 ∷ negsuc 12298 ∷ pos 0 ∷ pos 0 ∷ pos 0 ∷ pos 0 ∷ pos 16401 ∷ negsuc 22515 ∷ pos 24578 ∷ pos 4096 ∷ []),
 ) ∷ []
 unfolding Run Shown
 filters-left = refl
 
-filters-right : only 5 filters (run calls (read right)) ≡ (
+filters-right : only 5 filters (run (taken calls) (read right)) ≡ (
   (pos 4096 ∷ pos 28672 ∷ pos 16386 ∷ pos 0 ∷ pos 0 ∷ pos 0 ∷ pos 0 ∷ pos 16419 ∷ negsuc 28596 ∷ negsuc 4115 ∷ pos 2 ∷ []),
   (pos 4096 ∷ pos 24577 ∷ negsuc 12298 ∷ pos 0 ∷ pos 0 ∷ pos 0 ∷ pos 0 ∷ pos 16401 ∷ negsuc 22515 ∷ pos 24578 ∷ pos 4096 ∷ []),
 ) ∷ []
@@ -112,19 +112,19 @@ front p (x ∷ l) = p x
 apart : {A : Type 0} (p : A → Bool) {x y u v : A} → x ≡ u → y ≡ v → T (p u) → p v ≡ false → x ≢ y
 apart p e g t n h = subst T n (subst (λ z. T (p z)) (sym e ∙ h ∙ g) t)
 
-gains-differ : only 2 fixed-gains (run calls (read left)) ≢ only 2 fixed-gains (run calls (read right))
+gains-differ : only 2 fixed-gains (run (taken calls) (read left)) ≢ only 2 fixed-gains (run (taken calls) (read right))
 unfolding is front
 gains-differ = apart (front (λ x. is 4 (x .0))) gains-left gains-right tt refl
 
-lsf-differ : only 4 frequencies (run calls (read left)) ≢ only 4 frequencies (run calls (read right))
+lsf-differ : only 4 frequencies (run (taken calls) (read left)) ≢ only 4 frequencies (run (taken calls) (read right))
 unfolding is front
 lsf-differ = apart (front (λ x. is 0 (at x 9))) lsf-left lsf-right tt refl
 
-filters-differ : only 5 filters (run calls (read left)) ≢ only 5 filters (run calls (read right))
+filters-differ : only 5 filters (run (taken calls) (read left)) ≢ only 5 filters (run (taken calls) (read right))
 unfolding is front
 filters-differ = apart (front (λ x. is 4096 (at (x .0) 10))) filters-left filters-right tt refl
 
-shown : {A : Type 0} (n : ℕ) (f : FrameValues → A) → only n f (run calls (read left)) ≢ only n f (run calls (read right)) → Differ n f
+shown : {A : Type 0} (n : ℕ) (f : FrameValues → A) → only n f (run (taken calls) (read left)) ≢ only n f (run (taken calls) (read right)) → Differ n f
 shown n f d =
     record {
       t = tables;
@@ -161,15 +161,15 @@ unfoldable Failed : Type 0
 unfolding Shown later zero-call
 Failed = Unit {0}
 
-delay-left : only 1 delays (run (zero-call ∷ []) (read left)) ≡ (record { integer = pos 60; fraction = pos 0 }, record { integer = pos 54; fraction = pos 1 }) ∷ []
+delay-left : only 1 delays (run (taken (zero-call ∷ [])) (read left)) ≡ (record { integer = pos 60; fraction = pos 0 }, record { integer = pos 54; fraction = pos 1 }) ∷ []
 unfolding Run Failed
 delay-left = refl
 
-delay-later : only 1 delays (run (zero-call ∷ []) (read later)) ≡ (record { integer = pos 61; fraction = pos 0 }, record { integer = pos 55; fraction = pos 1 }) ∷ []
+delay-later : only 1 delays (run (taken (zero-call ∷ [])) (read later)) ≡ (record { integer = pos 61; fraction = pos 0 }, record { integer = pos 55; fraction = pos 1 }) ∷ []
 unfolding Run Failed
 delay-later = refl
 
-delays-differ : only 1 delays (run (zero-call ∷ []) (read left)) ≢ only 1 delays (run (zero-call ∷ []) (read later))
+delays-differ : only 1 delays (run (taken (zero-call ∷ [])) (read left)) ≢ only 1 delays (run (taken (zero-call ∷ [])) (read later))
 unfolding is front
 delays-differ = apart (front (λ x. is 60 (x .0 .integer))) delay-left delay-later tt refl
 

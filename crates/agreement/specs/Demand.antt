@@ -18,7 +18,7 @@ use Rattle.plc.specs.Kinds.{decide}
 use Rattle.state.specs.State.{Signal, read, read-signal, delay-in-range, accepted-state}
 use Rattle.parameters.specs.declared.Decoded.{Decoded}
 use Rattle.decoder.specs.Frame.{decode}
-use Rattle.decoder.specs.Call.{Answer, answer, frame}
+use Rattle.decoder.specs.Call.{Answer, number, block, output, frame}
 
 -- ---- a call
 
@@ -32,16 +32,6 @@ pub record Call : Type 0 where
 -- the call on state block b, its output 0 before it
 unfoldable pub made : Call → List ℤ → Answer
 made c b = frame (c .tables) b (c .kind) (c .payload) (replicate (c .room) (pos 0))
-
--- the number that a call returns, and the state block and the output that it leaves
-abbrev pub number : Answer → ℕ
-number (answer n b out) = n
-
-abbrev pub block : Answer → List ℤ
-block (answer n b out) = b
-
-abbrev pub output : Answer → List ℤ
-output (answer n b out) = out
 
 -- ---- a list of calls on a state block
 

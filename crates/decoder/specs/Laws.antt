@@ -1,26 +1,28 @@
 -- Laws of a frame's signal and of the frame call, from what the calls inside them give.
-use Prim.Native.Nat.{ℕ, _+_, _<_}
+use Prim.Native.Nat.{ℕ, zero, suc, _+_, _<_}
 use mathlib.Core.Path.{_≡_, refl, sym, ap, _∙_}
 use mathlib.Core.Bool.{Bool, true, false, cond}
 use mathlib.Core.List.{List, _++_}
 use native.Mathlib.Omega.{arith}
-use borrow.Author.Tests.{eqb-true, eqb-false, eq-eqb, ne-eqb}
-use lib.Dec.{eqb, ltb}
+use borrow.Author.Tests.{eqb-true, eq-eqb, ne-eqb}
+use lib.Dec.{eqb, eqb·suc-zero}
 use lib.IntN.{ℤ, pos}
 use lib.ListN.{length, drop, replicate, length-drop}
 use lib.Seq.{take-all}
 use Rattle.laws.specs.Lists.{at, filled, filled-end, tab-part}
 use Rattle.tables.specs.Layout.{table-check}
 use Rattle.plc.specs.declared.Decision.{Decision}
-use Rattle.kind.specs.Kind.{payload-length}
+use Rattle.kind.specs.Kind.{known, payload-length}
 use Rattle.plc.specs.Kinds.{decide}
 use Rattle.state.specs.State.{part, read-params, read-signal, read, write-params, write, state-check}
 use Rattle.state.specs.declared.Params.{Params}
 use Rattle.state.specs.Laws.{accepted-of-check, accepted-parts}
 use Rattle.parameters.specs.declared.Decoded.{Decoded}
 use Rattle.parameters.specs.Parameters.{parameters}
+use Rattle.decoder.specs.declared.Report.{Report}
+use Rattle.decoder.specs.declared.Framed.the-variants.{Refused, Done}
 use Rattle.decoder.specs.Frame.{Buffers, buffers, subframe-signal, frame-buffers, frame-signal, decode}
-use Rattle.decoder.specs.Call.{input-check, refusal, answer, frame}
+use Rattle.decoder.specs.Call.{first-of, input-check, refusal, report, answer, number, block, output, frame}
 
 -- ---- signal
 
@@ -40,6 +42,10 @@ module _ (t : List ℤ) (d : Decision) (b : List ℤ) {p : Params} {v : Decoded}
   unfolding decode read
   samples-are = ap (λ (x : Buffers). drop 10 (x .speech)) signal-is
 
+  pub report-is : {r : Report} → r ≡ report v → r ≡ report (decode t d (read b) .decoded)
+  unfolding decode read
+  report-is q = q ∙ ap report parameters-are
+
   pub block-is : {block : List ℤ} → block ≡ write-params (v .params) ++ (drop 80 e ++ drop 80 s) → block ≡ write (decode t d (read b) .state)
   unfolding decode read write
   block-is q =
@@ -57,33 +63,44 @@ when : (x : Bool) (m n : ℕ) → 0 < n → cond x m n ≡ 0 → (x ≡ true) ×
 when true m n h q = (refl, q)
 when false m n h q = absurd (omega arith)
 
-unless : (x : Bool) (m n : ℕ) → 0 < n → cond x n m ≡ 0 → m ≡ 0
-unless true m n h q = absurd (omega arith)
-unless false m n h q = q
-
-both : (k m : ℕ) → cond (eqb k 0) m k ≡ 0 → (k ≡ 0) × (m ≡ 0)
-both k m q = go (eqb k 0) refl q
-  where
-    go : (x : Bool) → eqb k 0 ≡ x → cond x m k ≡ 0 → (k ≡ 0) × (m ≡ 0)
-    go true e g = (eqb-true k 0 e, g)
-    go false e g = absurd (eqb-false k 0 e g)
+both : (k m : ℕ) → first-of k m ≡ 0 → (k ≡ 0) × (m ≡ 0)
+unfolding first-of
+both zero m q = (refl, q)
+both (suc k) m q = absurd (omega (arith, rw eqb·suc-zero at q))
 
 room-is : (kind : ℕ) (payload : List ℕ) (room : ℕ) → input-check kind payload room ≡ 0 → room ≡ 80
 unfolding input-check
 room-is kind payload room q =
-    let p = unless (ltb 3 kind) (cond (eqb (length payload) (payload-length kind)) (cond (eqb room 80) 0 7) 6) 5 (omega arith) q in
+    let p = when (known kind) (cond (eqb (length payload) (payload-length kind)) (cond (eqb room 80) 0 7) 6) 5 (omega arith) q .1 in
     let r = when (eqb (length payload) (payload-length kind)) (cond (eqb room 80) 0 7) 6 (omega arith) p .1 in
     eqb-true room 80 (when (eqb room 80) 0 7 (omega arith) r .0)
 
 pub checked : (t b : List ℤ) (kind : ℕ) (payload : List ℕ) (room : ℕ) → refusal t b kind payload room ≡ 0 → (state-check b ≡ 0) × (input-check kind payload room ≡ 0)
 unfolding refusal
-checked t b kind payload room q =
-    let n = input-check kind payload room in
-    both (state-check b) n (both (table-check t) (cond (eqb (state-check b) 0) n (state-check b)) q .1)
+checked t b kind payload room q = both (state-check b) (input-check kind payload room) (both (table-check t) _ q .1)
 
 -- what the number of a call says
+module _ (t b : List ℤ) (kind : ℕ) (payload : List ℕ) (out : List ℤ) where
+  pub frame-number : number (frame t b kind payload out) ≡ refusal t b kind payload (length out)
+  unfolding frame
+  frame-number = go (refusal t b kind payload (length out)) refl
+    where
+      go : (k : ℕ) → refusal t b kind payload (length out) ≡ k → number (frame t b kind payload out) ≡ refusal t b kind payload (length out)
+      go zero e = rw e
+      go (suc k) e = rw (e, eqb·suc-zero)
+
+  pub frame-done : number (frame t b kind payload out) ≡ 0
+      → (block (frame t b kind payload out) ≡ write (decode t (decide kind payload) (read b) .state)) × (output (frame t b kind payload out) ≡ decode t (decide kind payload) (read b) .samples)
+  unfolding frame
+  frame-done e = rw (sym frame-number ∙ e) (refl, refl)
+
+  pub frame-refused : (number (frame t b kind payload out) ≡ 0 → ⊥) → (block (frame t b kind payload out) ≡ b) × (output (frame t b kind payload out) ≡ out)
+  unfolding frame
+  frame-refused q = rw (ne-eqb _ 0 (λ e. q (frame-number ∙ e))) (refl, refl)
+
+-- the answer from what the calls inside give: n is the number that refuses it, or 0
 module _ (t b : List ℤ) (kind : ℕ) (payload : List ℕ) (out : List ℤ) {n : ℕ} (h : n ≡ refusal t b kind payload (length out)) where
-  pub refused : (n ≡ 0 → ⊥) → answer n b out ≡ frame t b kind payload out
+  pub refused : (n ≡ 0 → ⊥) → answer (Refused n) b out ≡ frame t b kind payload out
   unfolding frame
   refused q = rw (← h, ne-eqb n 0 q)
 
@@ -93,7 +110,8 @@ module _ (t b : List ℤ) (kind : ℕ) (payload : List ℕ) (out : List ℤ) {n 
       let c = checked t b kind payload (length out) (sym h ∙ e) in
       (accepted-parts b (accepted-of-check b (c .0)) .0, room-is kind payload (length out) (c .1))
 
-  pub done : n ≡ 0 → {d : Decision} {block samples b′ : List ℤ} → d ≡ decide kind payload → block ≡ write (decode t d (read b) .state)
-      → samples ≡ decode t d (read b) .samples → b′ ≡ cond (eqb (length b) 234) block b → answer 0 b′ samples ≡ frame t b kind payload out
+  pub done : n ≡ 0 → {d : Decision} {r : Report} {block samples b′ : List ℤ} → d ≡ decide kind payload → block ≡ write (decode t d (read b) .state)
+      → samples ≡ decode t d (read b) .samples → r ≡ report (decode t d (read b) .decoded) → b′ ≡ cond (eqb (length b) 234) block b
+      → answer (Done r) b′ samples ≡ frame t b kind payload out
   unfolding frame
-  done e q hb hs eb = rw (← h, eq-eqb n 0 e, eb, eq-eqb (length b) 234 (accepted e .0), hb, hs, q)
+  done e q hb hs hr eb = rw (← h, eq-eqb n 0 e, eb, eq-eqb (length b) 234 (accepted e .0), hb, hs, hr, q)

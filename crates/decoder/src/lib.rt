@@ -3,16 +3,40 @@ ghost use mathlib.Core.Path.{_≡_};
 ghost use mathlib.Core.Bool.{true, false};
 ghost use lib.ListN.{length, drop};
 ghost use Rattle.decoder.specs.Frame.{buffers, subframe-signal, decode};
-ghost use Rattle.decoder.specs.Call.{input-check, refusal, Answer, frame};
+ghost use Rattle.decoder.specs.Call.{input-check, refusal, report, code, Answer, frame};
 ghost use Rattle.state.specs.State.{read, write};
+use adaptive::Delay;
 use parameters::Decoded;
 use parameters::Subframe;
 use plc::Decision;
 
-// The state block that a frame leaves, and its speech: the ten samples before it and its 80.
+// What a frame hands up beside its samples: the delay that each subframe used.
+pub struct Report {
+    pub first: Delay,
+    pub second: Delay,
+}
+
+// The answer of the frame call (01): a refusal returns its number and no other value.
+pub enum Framed {
+    Refused(u32),
+    Done(Report),
+}
+
+// The state block that a frame leaves, its speech (the ten samples before it and its 80), and what it hands up.
 struct Output {
     block: [i16; 234],
     speech: [i16; 90],
+    report: Report,
+}
+
+// 01's number of an answer: 0 for success.
+pub fn code(f: Framed) -> u32
+    ensures { λ r. ⌜ r ≡ code f ⌝ }
+{
+    match f {
+        Framed::Refused(n) => n,
+        Framed::Done(_) => 0,
+    }
 }
 
 // The signal of one subframe, written into the frame's two buffers: equations (40) and (75), then (77) with its second run.
@@ -48,7 +72,7 @@ fn frame_signal(t: &[i16], v: Decoded, exc: &mut [i16; 234], speech: &mut [i16; 
 pub fn input_check(kind: u32, payload: &[u8], room: usize) -> u32
     ensures { λ r. ⌜ r ≡ input-check kind (now (payload .entry)) room ⌝ }
 {
-    if kind > 3 {
+    if !kind::known(kind) {
         return 5;
     }
     if payload.len() != kind::payload_length(kind) {
@@ -88,10 +112,22 @@ pub fn refusal(t: &[i16], b: &[i16], kind: u32, payload: &[u8], room: usize) -> 
     input_check(kind, payload, room)
 }
 
-// A frame on values: the block that it leaves and its speech, from the block before it.
+// What the parameters of a frame hand up.
+fn handed_up(v: Decoded) -> Report
+    ensures { λ r. ⌜ r ≡ report v ⌝ }
+{
+    let a = v.first;
+    let b = v.second;
+    let first = a.delay;
+    let second = b.delay;
+    Report { first, second }
+}
+
+// A frame on values: the block that it leaves, its speech and what it hands up, from the block before it.
 fn decode(t: &[i16], d: Decision, b: &[i16]) -> Output
     ensures { λ r. ⌜ r .block ≡ write (decode (now (t .entry)) d (read (now (b .entry))) .state) ⌝ }
     ensures { λ r. ⌜ drop 10 (r .speech) ≡ decode (now (t .entry)) d (read (now (b .entry))) .samples ⌝ }
+    ensures { λ r. ⌜ r .report ≡ report (decode (now (t .entry)) d (read (now (b .entry))) .decoded) ⌝ }
 {
     let v = parameters::parameters(t, d, state::read_params(b));
     let mut exc = state::read_exc(b);
@@ -99,21 +135,27 @@ fn decode(t: &[i16], d: Decision, b: &[i16]) -> Output
     frame_signal(t, v, &mut exc, &mut speech);
     let p = v.params;
     let block = state::write_block(p, &exc, &speech);
-    Output { block, speech }
+    let report = handed_up(v);
+    Output {
+        block,
+        speech,
+        report,
+    }
 }
 
-// The operation Frame (01): 0, with the state block and the 80 samples written, or why it is refused, and both as they were.
-pub fn frame(t: &[i16], b: &mut [i16], kind: u32, payload: &[u8], out: &mut [i16]) -> u32
+// The operation Frame (01): what the frame hands up, with the state block and the 80 samples written, or why it is refused, and both as they were.
+pub fn frame(t: &[i16], b: &mut [i16], kind: u32, payload: &[u8], out: &mut [i16]) -> Framed
     ensures { λ r. ⌜ Answer.answer r (now (b .exit)) (now (out .exit)) ≡ frame (now (t .entry)) (now (b .entry)) kind (now (payload .entry)) (now (out .entry)) ⌝ }
 {
-    let code = refusal(t, b, kind, payload, out.len());
-    if code != 0 {
-        return code;
+    let number = refusal(t, b, kind, payload, out.len());
+    if number != 0 {
+        return Framed::Refused(number);
     }
     let f = decode(t, plc::decide(kind, payload), b);
     let block = f.block;
     let speech = f.speech;
     state::copy_block(b, block);
     copy_samples(&speech, out);
-    0
+    let report = f.report;
+    Framed::Done(report)
 }

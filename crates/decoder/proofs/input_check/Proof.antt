@@ -1,5 +1,5 @@
 -- `decoder::input_check` meets its contract: each test picks its case of the definition.
-use borrow.Author.Tests.{lt-ltb, le-ltb, eq-eqb, ne-eqb}
+use borrow.Author.Tests.{eq-eqb, ne-eqb, not-true, not-false}
 use Rattle.decoder.specs.Call.{input-check}
 use borrow.Author.Needs.{needs}
 use Rattle.decoder.proofs.input_check.Statement.{statement}
@@ -7,19 +7,27 @@ use Rattle.decoder.proofs.input_check.Tie as tie
 
 returns : tie.Need-returns
 unfolding input-check
-returns c = rw (lt-ltb _ _ (c .if1 .taken))
+returns c = rw (← c .before .known .ensures, not-true (c .before .known .result) (c .if1 .taken))
 
 returns-2 : tie.Need-returns-2
 unfolding input-check
-returns-2 c = rw (le-ltb _ _ (c .before .before .if1 .left), ← c .before .payload-length .ensures, ne-eqb _ _ (c .if2 .taken))
+returns-2 c =
+    let k = c .before .before in
+    rw (← k .before .known .ensures, not-false (k .before .known .result) (k .if1 .left), ← c .before .payload-length .ensures, ne-eqb _ _ (c .if2 .taken))
 
 returns-3 : tie.Need-returns-3
 unfolding input-check
-returns-3 c = rw (le-ltb _ _ (c .before .before .before .if1 .left), ← c .before .before .payload-length .ensures, eq-eqb _ _ (c .before .if2 .left), ne-eqb _ _ (c .if3 .taken))
+returns-3 c =
+    let n = c .before in
+    let k = n .before .before in
+    rw (← k .before .known .ensures, not-false (k .before .known .result) (k .if1 .left), ← n .before .payload-length .ensures, eq-eqb _ _ (n .if2 .left), ne-eqb _ _ (c .if3 .taken))
 
 returns-4 : tie.Need-returns-4
 unfolding input-check
-returns-4 c = rw (le-ltb _ _ (c .before .before .before .if1 .left), ← c .before .before .payload-length .ensures, eq-eqb _ _ (c .before .if2 .left), eq-eqb _ _ (c .if3 .left))
+returns-4 c =
+    let n = c .before in
+    let k = n .before .before in
+    rw (← k .before .known .ensures, not-false (k .before .known .result) (k .if1 .left), ← n .before .payload-length .ensures, eq-eqb _ _ (n .if2 .left), eq-eqb _ _ (c .if3 .left))
 
 pub input-check-spec : {M : Type 1} → statement M
-input-check-spec = tie.close (tie.spec returns (λ c κs. search needs) returns-2 returns-3 returns-4)
+input-check-spec = tie.close (tie.spec (λ c κs. search needs) returns (λ c κs. search needs) returns-2 returns-3 returns-4)

@@ -1,20 +1,20 @@
 -- `decoder::refusal` meets its contract: each number is returned where it is not 0.
 use borrow.Author.Tests.{eq-eqb, ne-eqb}
-use Rattle.decoder.specs.Call.{refusal}
+use Rattle.decoder.specs.Call.{first-of, refusal}
 use borrow.Author.Needs.{needs}
 use Rattle.decoder.proofs.refusal.Statement.{statement}
 use Rattle.decoder.proofs.refusal.Tie as tie
 
 returns : tie.Need-returns
-unfolding refusal
+unfolding refusal first-of
 returns c = rw (← c .before .table-check .ensures, ne-eqb _ _ (c .if1 .taken))
 
 returns-2 : tie.Need-returns-2
-unfolding refusal
+unfolding refusal first-of
 returns-2 c = rw (← c .before .before .before .table-check .ensures, eq-eqb _ _ (c .before .before .if1 .left), ← c .before .state-check .ensures, ne-eqb _ _ (c .if2 .taken))
 
 returns-3 : tie.Need-returns-3
-unfolding refusal
+unfolding refusal first-of
 returns-3 c =
     let k₀ = c .before in
     let k₁ = k₀ .before in

@@ -1,9 +1,9 @@
--- `print::digit` meets its contract: the test picks its case of the definition.
+-- `text::digit` meets its contract: the test picks its case of the definition.
 use borrow.Author.Needs.{needs}
 use borrow.Author.Tests.{lt-ltb, le-ltb}
 use Rattle.laws.specs.Digits.{digit}
-use Rattle.print.proofs.digit.Statement.{statement}
-use Rattle.print.proofs.digit.Tie as tie
+use Rattle.text.proofs.digit.Statement.{statement}
+use Rattle.text.proofs.digit.Tie as tie
 
 returns : tie.Need-returns
 unfolding digit

@@ -1,10 +1,10 @@
--- `line::value` meets its contract: each test picks its case of the definition.
+-- `text::value` meets its contract: each test picks its case of the definition.
 use native.Mathlib.Omega.{arith}
 use borrow.Author.Needs.{needs}
 use borrow.Author.Tests.{lt-ltb, le-ltb}
 use Rattle.laws.specs.Digits.{value}
-use Rattle.line.proofs.value.Statement.{statement}
-use Rattle.line.proofs.value.Tie as tie
+use Rattle.text.proofs.value.Statement.{statement}
+use Rattle.text.proofs.value.Tie as tie
 
 returns : tie.Need-returns
 unfolding value

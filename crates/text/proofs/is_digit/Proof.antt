@@ -1,8 +1,8 @@
--- `line::is_digit` meets its contract: each test picks its case of the definition.
+-- `text::is_digit` meets its contract: each test picks its case of the definition.
 use borrow.Author.Tests.{lt-ltb, le-ltb}
 use Rattle.laws.specs.Digits.{is-digit}
-use Rattle.line.proofs.is_digit.Statement.{statement}
-use Rattle.line.proofs.is_digit.Tie as tie
+use Rattle.text.proofs.is_digit.Statement.{statement}
+use Rattle.text.proofs.is_digit.Tie as tie
 
 returns : tie.Need-returns
 unfolding is-digit
