@@ -9,6 +9,8 @@ use lib.ListN.{length, take, drop, getD}
 use Rattle.count.specs.declared.Counts.{Counts}
 use Rattle.count.specs.Count as Count
 use Rattle.crc32.specs.Crc32.{crc32}
+use Rattle.line.specs.Line.{shortest, longest}
+use Rattle.print.specs.Print.{frame-room}
 use Rattle.state.specs.State.{state-check}
 use Rattle.words.specs.Words.{bytes, words, number, number-bytes, numbers, numbers-bytes}
 use Rattle.job.specs.declared.Saved.{Saved}
@@ -80,15 +82,6 @@ sum-fits f = eqb (number (take 4 (drop 512 f))) (crc32 (take 512 f))
 -- the file is of this form and version
 unfoldable pub known : List ℕ → Bool
 known f = eqb (getD (fields f) 0 0) tag && eqb (getD (fields f) 1 0) version
-
-abbrev pub shortest : ℕ
-shortest = 14
-
-abbrev pub longest : ℕ
-longest = 36
-
-abbrev pub frame-room : ℕ
-frame-room = 327
 
 -- what a job can have: each line is a frame, and has its bytes of the text, with its line feed, and of the output
 unfoldable pub fits : Saved → Bool

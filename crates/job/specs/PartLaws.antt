@@ -85,4 +85,3 @@ module _ (l : List ℕ) (i n : ℕ) (h : i < length l) (e : digits 0 l ≡ digit
 pub wanted-end : (l : List ℕ) (i n : ℕ) → (length l ≡ 0 → ⊥) → length l ≤ i → digits 0 l ≡ digits n (drop i l) → record { good = true; most = n } ≡ wanted l
 unfolding wanted digits
 wanted-end l i n h k e = rw (ne-eqb (length l) 0 h, e, drop-of-length-le l {i = i} k)
-

@@ -11,6 +11,9 @@ ghost use Rattle.words.specs.Words.{number-bytes, numbers-bytes};
 ghost use Rattle.job.specs.Job.{start, widths, head, state-and-counts, pack, fields, counts, place, sum-fits, known, fits, check, Answer, read};
 use count::Counts;
 use count::NUMBERS;
+use line::LONGEST;
+use line::SHORTEST;
+use print::FRAME_ROOM;
 
 // Where a stopped job goes on, beside its state block.
 pub struct Saved {
@@ -41,12 +44,6 @@ const VERSION: u64 = 1;
 const HEAD: usize = 7;
 
 const WIDTHS: [usize; HEAD] = [4, 4, 8, 8, 4, 4, 4];
-
-const SHORTEST: usize = 14;
-
-const LONGEST: usize = 36;
-
-const FRAME_ROOM: usize = 327;
 
 // Where a new job begins, with tables of this CRC-32.
 pub fn start(tables: u32) -> Saved

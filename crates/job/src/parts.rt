@@ -160,4 +160,3 @@ pub fn wanted(text: &[u8]) -> Frames
         most: n,
     }
 }
-

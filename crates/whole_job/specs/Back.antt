@@ -16,12 +16,14 @@ use Rattle.count.specs.Laws.{frames-few, numbers-small, numbers-back}
 use Rattle.crc32.specs.Crc32.{crc32}
 use Rattle.crc32.specs.Laws.{crc32-lt}
 use Rattle.laws.specs.Lists.{at}
+use Rattle.line.specs.Line.{shortest, longest}
+use Rattle.print.specs.Print.{frame-room}
 use Rattle.state.specs.State.{state-check}
 use Rattle.words.specs.Words.{Bytes, bytes, number-bytes, numbers-bytes}
 use Rattle.words.specs.Laws as Words
 use Rattle.job.specs.declared.Saved.{Saved}
 use Rattle.job.specs.declared.Found.the-variants.{Refused, Job}
-use Rattle.job.specs.Job.{tag, version, shortest, longest, frame-room, widths, head, count-widths, state-and-counts, body, pack, fields, block, counts, place, sum-fits, known, fits, check, answer, read}
+use Rattle.job.specs.Job.{tag, version, widths, head, count-widths, state-and-counts, body, pack, fields, block, counts, place, sum-fits, known, fits, check, answer, read}
 
 -- ---- the numbers of a job
 

@@ -72,7 +72,7 @@ call-read p r =
     same : Bool
     same = eqb (more 0 (take (p .at) (joined r))) (p .call)
 
-    by : (x : Bool) → leb (p .at) (length (joined r)) ≡ x → cond (eqb (p .at - length (joined r)) 0 && same) 0 26 ≡ cond (leb (p .at) (length (joined r)) && same) 0 26
+    by : (x : Bool) → leb (p .at) (length (joined r)) ≡ x → _≡_ {A = ℕ} (cond (eqb (p .at - length (joined r)) 0 && same) 0 26) (cond (leb (p .at) (length (joined r)) && same) 0 26)
     by true e = let h : p .at ≤ length (joined r) = leb-true (p .at) (length (joined r)) e in rw (e, eq-eqb (p .at - length (joined r)) 0 (omega arith))
     by false e = let h : length (joined r) < p .at = leb-false (p .at) (length (joined r)) e in rw (e, ne-eqb (p .at - length (joined r)) 0 (λ z. omega arith))
 
@@ -88,7 +88,7 @@ module _ (file text all : List ℕ) (b : List ℤ) (p : Saved) (out : List ℕ) 
   other-call text′ h =
       rw (ne-eqb (crc32 (take (p .at) text′)) (p .call) (λ e. h (sym (good .of-call) ∙ sym e))) (by (leb (p .at) (length text′)))
     where
-      by : (x : Bool) → cond (x && false) 0 26 ≡ 26
+      by : (x : Bool) → _≡_ {A = ℕ} (cond (x && false) 0 26) 26
       by true = refl
       by false = refl
 

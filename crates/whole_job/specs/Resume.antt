@@ -16,7 +16,7 @@ use lib.ListN.{length, take, drop, length-append, length-take, length-drop, take
 use lib.Seq.{take-at, take-add, take-take, drop-append-le, drop-drop}
 use Rattle.count.specs.Count as Count
 use Rattle.count.specs.Laws.{frames-few, fits-none, frames-none}
-use Rattle.crc32.specs.Crc32.{crc32, more}
+use Rattle.crc32.specs.Crc32.{run, crc32, more}
 use Rattle.crc32.specs.Laws.{crc32-lt, crc32-append}
 use Rattle.line.specs.Line.{shortest, longest}
 use Rattle.line_step.specs.declared.Progress.{Progress}
@@ -57,7 +57,7 @@ pub record Good (file text all : List ℕ) (b : List ℤ) (p : Saved) (out : Lis
 
 -- a new job, whatever stands in the output: all that is to be printed is what `decode` prints
 pub good-fresh : (file text out : List ℕ) → file-check file ≡ 0 → Good file text (output file text) (fresh-job (words file) .block) (start (crc32 file)) out
-unfolding going progress fresh-job Call.start start output fits crc32
+unfolding going progress fresh-job Call.start start output fits crc32 run
 good-fresh file text out h =
     record {
       of-tables = refl;
@@ -164,7 +164,9 @@ module _ (file text all : List ℕ) (b : List ℤ) (p : Saved) (out : List ℕ) 
   unfolding after used next
   next-is =
       let l : Q .job .progress .lines ≤ 360000 = lines-few in
-      rw (mod-eq-of-lt {b = 2 ^ 64} (omega (arith, length-input)), mod-eq-of-lt {b = 2 ^ 64} (omega (arith, printed-few)))
+      let a : (p .at + used) % 2 ^ 64 ≡ p .at + used = mod-eq-of-lt (omega (arith, length-input)) in
+      let w : (p .written + length (Q .text)) % 2 ^ 64 ≡ p .written + length (Q .text) = mod-eq-of-lt (omega (arith, printed-few)) in
+      rw (a, w)
 
   -- what is printed of the text from the place on
   from-here : printed t (going b p) [] (drop (p .at) text) ≡ Q .text ++ printed t (Q .job) [] (drop (p .at + used) text)
@@ -178,7 +180,10 @@ module _ (file text all : List ℕ) (b : List ℤ) (p : Saved) (out : List ℕ) 
   call-here : more (p .call) (take used input) ≡ crc32 (take (p .at + used) text)
   call-here =
       let u : used ≤ n = omega (arith, used-all, length-input) in
-      rw (good .of-call, take-take used n (drop (p .at) text) u, take-add (p .at) used text) (crc32-append (take (p .at) text) (take used (drop (p .at) text)))
+      ap (λ (x : ℕ). more x (take used input)) (good .of-call)
+      ∙ ap (λ (x : List ℕ). more (crc32 (take (p .at) text)) x) (take-take used n (drop (p .at) text) u)
+      ∙ crc32-append (take (p .at) text) (take used (drop (p .at) text))
+      ∙ ap crc32 (sym (take-add (p .at) used text))
 
   fits-next : Q .job .progress .code ≡ 0 → fits next ≡ true
   unfolding fits next going progress
@@ -201,7 +206,7 @@ module _ (file text all : List ℕ) (b : List ℤ) (p : Saved) (out : List ℕ) 
   front = put-front (p .written) (Q .text) out (good .reach)
 
   good-next : Q .job .progress .code ≡ 0 → Good file text all (Q .job .block) next (put-at (p .written) (Q .text) out)
-  unfolding next
+  unfolding next going
   good-next c =
       record {
         of-tables = good .of-tables;
