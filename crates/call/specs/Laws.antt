@@ -123,8 +123,16 @@ ending input out out₀ job used written p hu hw hl hr e =
     let o : take written out ++ drop written out₀ ≡ out = rw (← hr) (take-append-drop written out) in
     rw (e, append-nil (take written out), a, d, o)
 
+-- what a line printed is within the bytes lent for it
+pub text-within : (s : Step) (text₀ : List ℕ) {job : Job} {m : ℕ} {text : List ℕ} → Step.answer job m text ≡ Step.given s text₀ → m ≤ length text
+unfolding Step.given over
+text-within s text₀ {m = m} {text = text} a =
+    let e : m ≡ length (s .text) = cc in
+    let o : text ≡ s .text ++ drop (length (s .text)) text₀ = cc in
+    rw (o, length-append) (omega arith)
+
 -- the first m bytes of a text, copied to place `at`
-pub copied : (out text v : List ℕ) (at m : ℕ) → at ≤ length out → m ≤ length text → m ≤ length out - at
+copied : (out text v : List ℕ) (at m : ℕ) → at ≤ length out → m ≤ length text → m ≤ length out - at
     → v ≡ take (length (take (m - 0) text)) (take (m - 0) text) ++ drop (length (take (m - 0) text)) (take (length out - at) (drop at out))
     → take at out ++ (v ++ drop (length out - at) (drop at out)) ≡ take at out ++ (take m text ++ drop m (drop at out))
 copied out text v at m h k g e =
@@ -181,10 +189,12 @@ module _ (t b₀ : List ℤ) (from : Progress) (most : ℕ) (input out₀ : List
         let e : length (step .text) ≡ m = is .length-is in
         (omega arith, (q .1 .0, omega arith))
 
-    pub turn : {out′ : List ℕ} → length b′ ≡ length b → out′ ≡ take written out ++ (take m text ++ drop m (drop written out))
-        → So-far t b₀ from most input out₀ b′ p (left - 1) out′ (end + 1) (written + m)
+    -- what it printed is copied behind what was written
+    pub turn : {v : List ℕ} → length b′ ≡ length b
+        → v ≡ take (length (take (m - 0) text)) (take (m - 0) text) ++ drop (length (take (m - 0) text)) (take (length out - written) (drop written out))
+        → So-far t b₀ from most input out₀ b′ p (left - 1) (take written out ++ (v ++ drop (length out - written) (drop written out))) (end + 1) (written + m)
     unfolding follow behind
-    turn {out′} lb e =
+    turn {v = w} lb e =
         let q = step-lines t (kept b job) (take (end - used) (drop used input)) in
         let z : step .job .progress .lines ≡ p .lines = ap (λ (j : Job). j .progress .lines) (is .job-is) in
         let r = room in
@@ -192,7 +202,9 @@ module _ (t b₀ : List ℤ) (from : Progress) (most : ℕ) (input out₀ : List
         let lv : length v ≡ m = ap length (is .text-is) ∙ is .length-is in
         let lw : length (take written out ++ v) ≡ written + m = rw (length-append, lv, length-take) (omega arith) in
         let d : length out₀ - written - m ≡ length out₀ - (written + m) = omega arith in
-        let s : out′ ≡ (take written out ++ v) ++ drop (written + m) out = e ∙ rw (drop-drop m written out, append-assoc) in
+        let lt : m ≤ length text = text-within step text₀ a in
+        let s : take written out ++ (w ++ drop (length out - written) (drop written out)) ≡ (take written out ++ v) ++ drop (written + m) out =
+        copied out text w written m (omega arith) lt (omega arith) e ∙ rw (drop-drop m written out, append-assoc) in
         record {
           inside = omega arith;
           fits = omega (arith, f .length-out);
