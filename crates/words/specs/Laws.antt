@@ -93,12 +93,12 @@ pub to-end : (l : List ℤ) (out z : List ℕ) (i : ℕ) → z ≡ put l i out �
 unfolding to-bytes put
 to-end l out z i e h = e ∙ rw h
 
--- lent bytes with room for all the words
-pub to-front : (l : List ℤ) (out : List ℕ) → 2 * length l ≤ length out → take (2 * length l) (to-bytes l out) ≡ bytes l
+-- as many bytes as the words have
+pub to-whole : (l : List ℤ) (out : List ℕ) → length out ≡ 2 * length l → to-bytes l out ≡ bytes l
 unfolding to-bytes
-to-front l out h =
+to-whole l out h =
     let n : min (length l) (length out / 2) ≡ length l = omega arith in
-    rw (n, take-all (length l) l (omega arith)) (take-at (bytes l) _ (2 * length l) (length-bytes l))
+    rw (n, take-all (length l) l (omega arith), drop-of-length-le out {i = 2 * length l} (omega arith), append-nil)
 
 -- ---- a number
 
@@ -289,13 +289,13 @@ put-whole (w ∷ ws) (v ∷ vs) out h k =
 -- numbers that have room in their widths, none of more than eight bytes
 pub data Fit : List ℕ → List ℕ → Type 0 where
   none : Fit [] []
-  more : {w v : ℕ} {ws vs : List ℕ} → w ≤ 8 → v < 256 ^ w → Fit ws vs → Fit (w ∷ ws) (v ∷ vs)
+  more : (w v : ℕ) {ws vs : List ℕ} → w ≤ 8 → v < 256 ^ w → Fit ws vs → Fit (w ∷ ws) (v ∷ vs)
 
 -- what was written is read back, whatever lies behind it
 pub numbers-back : (ws vs l : List ℕ) → Fit ws vs → numbers ws (numbers-bytes ws vs ++ l) ≡ vs
 unfolding numbers numbers-bytes
 numbers-back [] [] l none = refl
-numbers-back (w ∷ ws) (v ∷ vs) l (more h k f) =
+numbers-back (w ∷ ws) (v ∷ vs) l (more _ _ h k f) =
     let n : length (number-bytes w v) ≡ w = length-number-bytes w v in
     rw (append-assoc, take-at (number-bytes w v) (numbers-bytes ws vs ++ l) w n, drop-at (number-bytes w v) (numbers-bytes ws vs ++ l) w n, take-all 8 (number-bytes w v) (omega arith), number-back w v k, numbers-back ws vs l f)
 
