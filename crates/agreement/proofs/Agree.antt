@@ -28,7 +28,7 @@ use Rattle.agreement.proofs.Ranges.{delays-good}
 use Rattle.agreement.specs.Run.{taken, frame-of, values-of, run}
 use Rattle.agreement.proofs.Runs.{accepted-params, answers-are, frames-are}
 
--- ---- what is equal after n frames
+-- ---- what is equal after n frames: from 5 on all but the seed
 
 pub record Agree (n : ℕ) (p q : Params) : Type 0 where
   pub old : 1 ≤ n → p .pitch .old ≡ q .pitch .old
@@ -36,25 +36,45 @@ pub record Agree (n : ℕ) (p q : Params) : Type 0 where
   pub mem0 : 1 ≤ n → at (p .gain .mem) 0 ≡ at (q .gain .mem) 0
   pub mem1 : 1 ≤ n → at (p .gain .mem) 1 ≡ at (q .gain .mem) 1
   pub mem : 2 ≤ n → p .gain .mem ≡ q .gain .mem
+  pub gp : 1 ≤ n → p .gain .gp ≡ q .gain .gp
+  pub gc : 3 ≤ n → p .gain .gc ≡ q .gain .gc
+  pub predictor : 1 ≤ n → p .predictor ≡ q .predictor
   pub r0 : 1 ≤ n → p .r0 ≡ q .r0
   pub r1 : 2 ≤ n → p .r1 ≡ q .r1
   pub r2 : 3 ≤ n → p .r2 ≡ q .r2
   pub r3 : 4 ≤ n → p .r3 ≡ q .r3
+  pub omega : 5 ≤ n → p .omega ≡ q .omega
   pub lsp : 5 ≤ n → p .lsp ≡ q .lsp
 
 none : {A : Type 0} {n : ℕ} → suc n ≤ 0 → A
 none h = absurd (omega arith)
 
-at-start : (p q : Params) → Agree 0 p q
-at-start p q = record { old = none; beta = none; mem0 = none; mem1 = none; mem = none; r0 = none; r1 = none; r2 = none; r3 = none; lsp = none }
+pub at-start : (p q : Params) → Agree 0 p q
+at-start p q =
+    record {
+      old = none;
+      beta = none;
+      mem0 = none;
+      mem1 = none;
+      mem = none;
+      gp = none;
+      gc = none;
+      predictor = none;
+      r0 = none;
+      r1 = none;
+      r2 = none;
+      r3 = none;
+      omega = none;
+      lsp = none;
+    }
 
 -- ---- one voice frame after n frames
 
 module _ (t : List ℤ) (f : SpeechParams) {n : ℕ} {p q : Params} (h : Agree n p q) (first : n ≡ 0 → T (pitch.parity-ok (f .p1) (f .p0))) where
-  v : Decoded
+  unfoldable pub v : Decoded
   v = voice t f p
 
-  w : Decoded
+  unfoldable pub w : Decoded
   w = voice t f q
 
   -- the first delay is the carried one only if parity fails
@@ -66,23 +86,23 @@ module _ (t : List ℤ) (f : SpeechParams) {n : ℕ} {p q : Params} (h : Agree n
       go zero e = rw (is-true (pitch.parity-ok (f .p1) (f .p0)) (first e))
       go (suc k) e = ap (λ (d : ℤ). pitch.first d (f .p1) (pitch.parity-ok (f .p1) (f .p0))) (h .old (omega arith))
 
-  same-delays : (v .first .delay ≡ w .first .delay) × (v .second .delay ≡ w .second .delay)
+  pub same-delays : (v .first .delay ≡ w .first .delay) × (v .second .delay ≡ w .second .delay)
   unfolding v w Parts
   same-delays = let e = tracked in (cc, cc)
 
-  same-pitch : (v .first .gp ≡ w .first .gp) × (v .second .gp ≡ w .second .gp)
+  pub same-pitch : (v .first .gp ≡ w .first .gp) × (v .second .gp ≡ w .second .gp)
   unfolding v w Parts gain.decode
   same-pitch = (refl, refl)
 
-  same-codes : 1 ≤ n → (v .first .code ≡ w .first .code) × (v .second .code ≡ w .second .code)
+  pub same-codes : 1 ≤ n → (v .first .code ≡ w .first .code) × (v .second .code ≡ w .second .code)
   unfolding v w Parts gain.decode
   same-codes l = let e = tracked in let b = h .beta l in (cc, cc)
 
-  same-fixed : 2 ≤ n → (v .first .gc ≡ w .first .gc) × (v .second .gc ≡ w .second .gc)
+  pub same-fixed : 2 ≤ n → (v .first .gc ≡ w .first .gc) × (v .second .gc ≡ w .second .gc)
   unfolding v w Parts gain.decode
   same-fixed l = let e = tracked in let b = h .beta (omega arith) in let m = h .mem l in (cc, cc)
 
-  same-lsf : 4 ≤ n → v .params .omega ≡ w .params .omega
+  pub same-lsf : 4 ≤ n → v .params .omega ≡ w .params .omega
   unfolding v w Parts
   same-lsf l =
       let e0 = h .r0 (omega arith) in
@@ -91,7 +111,7 @@ module _ (t : List ℤ) (f : SpeechParams) {n : ℕ} {p q : Params} (h : Agree n
       let e3 = h .r3 l in
       λ i. decode-lsf t (f .l0) (new-row t (f .l1) (f .l2) (f .l3)) (e0 i ∷ e1 i ∷ e2 i ∷ e3 i ∷ [])
 
-  same-filters : 5 ≤ n → (v .first .a ≡ w .first .a) × (v .second .a ≡ w .second .a)
+  pub same-filters : 5 ≤ n → (v .first .a ≡ w .first .a) × (v .second .a ≡ w .second .a)
   unfolding v w Parts
   same-filters l =
       let e : v .params .omega ≡ w .params .omega = same-lsf (omega arith) in
@@ -111,7 +131,7 @@ module _ (t : List ℤ) (f : SpeechParams) {n : ℕ} {p q : Params} (h : Agree n
         λ i. record { delay = d .1 i; gp = g .1 i; gc = k .1 i; code = c .1 i; a = a .1 i },
       )
 
-  one-more : Agree (suc n) (v .params) (w .params)
+  pub one-more : Agree (suc n) (v .params) (w .params)
   unfolding v w Parts gain.decode gain.push pitch.second
   one-more =
       record {
@@ -120,16 +140,20 @@ module _ (t : List ℤ) (f : SpeechParams) {n : ℕ} {p q : Params} (h : Agree n
         mem0 = λ l. refl;
         mem1 = λ l. refl;
         mem = λ l. let e0 = h .mem0 (omega arith) in let e1 = h .mem1 (omega arith) in λ i. gain.gain-error t (f .ga2) (f .gb2) ∷ gain.gain-error t (f .ga1) (f .gb1) ∷ e0 i ∷ e1 i ∷ [];
+        gp = λ l. same-pitch .1;
+        gc = λ l. same-fixed (omega arith) .1;
+        predictor = λ l. refl;
         r0 = λ l. refl;
         r1 = λ l. h .r0 (omega arith);
         r2 = λ l. h .r1 (omega arith);
         r3 = λ l. h .r2 (omega arith);
+        omega = λ l. same-lsf (omega arith);
         lsp = λ l. ap (to-lsp t) (same-lsf (omega arith));
       }
 
 -- ---- one call that returns 0 and is a voice frame
 
-voiced : (c : Call) (s : State) → c .kind ≡ 0 → frame-of c s .decoded ≡ voice (c .tables) (unpack (c .payload)) (s .params)
+pub voiced : (c : Call) (s : State) → c .kind ≡ 0 → frame-of c s .decoded ≡ voice (c .tables) (unpack (c .payload)) (s .params)
 unfolding frame-of decode decide parameters
 voiced c s k = rw k
 
@@ -148,30 +172,30 @@ module _ (n : ℕ) (c : Call) (k : c .kind ≡ 0) (a b : State) (h : Agree n (a 
   unfolding t f
   now g e = ap g (voiced c a k) ∙ e ∙ sym (ap g (voiced c b k))
 
-  agree-after : Agree (suc n) (frame-of c a .state .params) (frame-of c b .state .params)
+  pub agree-after : Agree (suc n) (frame-of c a .state .params) (frame-of c b .state .params)
   unfolding frame-of decode t f v w
   agree-after = subst (λ (x : Decoded). Agree (suc n) (x .params) (frame-of c b .decoded .params)) (sym (voiced c a k)) half
     where
       half : Agree (suc n) (voice (c .tables) (unpack (c .payload)) (a .params) .params) (frame-of c b .decoded .params)
       half = subst (λ (x : Decoded). Agree (suc n) (voice (c .tables) (unpack (c .payload)) (a .params) .params) (x .params)) (sym (voiced c b k)) (one-more t f h parity)
 
-  delays-now : delays (values-of c a) ≡ delays (values-of c b)
+  pub delays-now : delays (values-of c a) ≡ delays (values-of c b)
   unfolding values-of v w
   delays-now = now (λ d. (d .first .delay, d .second .delay)) (let e = same-delays t f h parity in λ i. (e .0 i, e .1 i))
 
-  pitch-now : pitch-gains (values-of c a) ≡ pitch-gains (values-of c b)
+  pub pitch-now : pitch-gains (values-of c a) ≡ pitch-gains (values-of c b)
   unfolding values-of v w
   pitch-now = now (λ d. (d .first .gp, d .second .gp)) (let e = same-pitch t f h parity in λ i. (e .0 i, e .1 i))
 
-  fixed-now : 2 ≤ n → fixed-gains (values-of c a) ≡ fixed-gains (values-of c b)
+  pub fixed-now : 2 ≤ n → fixed-gains (values-of c a) ≡ fixed-gains (values-of c b)
   unfolding values-of v w
   fixed-now l = now (λ d. (d .first .gc, d .second .gc)) (let e = same-fixed t f h parity l in λ i. (e .0 i, e .1 i))
 
-  lsf-now : 4 ≤ n → frequencies (values-of c a) ≡ frequencies (values-of c b)
+  pub lsf-now : 4 ≤ n → frequencies (values-of c a) ≡ frequencies (values-of c b)
   unfolding values-of v w
   lsf-now l = now (λ d. d .params .omega) (same-lsf t f h parity l)
 
-  filters-now : 5 ≤ n → filters (values-of c a) ≡ filters (values-of c b)
+  pub filters-now : 5 ≤ n → filters (values-of c a) ≡ filters (values-of c b)
   unfolding values-of v w
   filters-now l = now (λ d. (d .first .a, d .second .a)) (let e = same-filters t f h parity l in λ i. (e .0 i, e .1 i))
 
@@ -222,10 +246,10 @@ in-range (c ∷ cs) s h ok = (good c s (h .0) ok, in-range cs _ (h .1) (good-aft
 -- ---- the frames that follow n frames
 
 -- f of those from frame k + 1 on
-abbrev Later : {A : Type 0} → ℕ → ℕ → (FrameValues → A) → List FrameValues → List FrameValues → Type 0
+abbrev pub Later : {A : Type 0} → ℕ → ℕ → (FrameValues → A) → List FrameValues → List FrameValues → Type 0
 Later k n f vs ws = map f (drop (k - n) vs) ≡ map f (drop (k - n) ws)
 
-later : {A : Type 0} (k n : ℕ) (f : FrameValues → A) (v w : FrameValues) (vs ws : List FrameValues) → (k ≤ n → f v ≡ f w) → Later k (suc n) f vs ws → Later k n f (v ∷ vs) (w ∷ ws)
+pub later : {A : Type 0} (k n : ℕ) (f : FrameValues → A) (v w : FrameValues) (vs ws : List FrameValues) → (k ≤ n → f v ≡ f w) → Later k (suc n) f vs ws → Later k n f (v ∷ vs) (w ∷ ws)
 later k n f v w vs ws now rest = go (k - n) refl
   where
     go : (m : ℕ) → k - n ≡ m → map f (drop m (v ∷ vs)) ≡ map f (drop m (w ∷ ws))

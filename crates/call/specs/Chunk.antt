@@ -1,15 +1,17 @@
--- A part of a call's text (01, "The call text and the program"): whole lines are taken out of it, while what they print fits into the room lent for it. `whole` of crate whole_call says that parts make up
--- `printed` of the whole text.
+-- A part of a call's text (01, "The call text and the program"): whole lines are taken out of it, at most so many, while what they print fits into the room lent for it. `whole` of
+-- crate whole_call says that parts make up `printed` of the whole text.
 use mathlib.Core.Bool.{Bool, cond, _&&_}
 use mathlib.Core.List.{List, [], _∷_, _++_}
 use Prim.Native.Nat.{ℕ, suc, _-_}
 use lib.Dec.{eqb, leb, ltb}
 use lib.IntN.{ℤ}
 use lib.ListN.{length}
-use Rattle.print.specs.Print.{over}
+use Rattle.line.specs.Line.{longest}
+use Rattle.print.specs.Print.{over, frame-room}
 use Rattle.state.specs.State as State
 use Rattle.words.specs.Words.{words}
-use Rattle.line_step.specs.Step.{Job, Step, line-step}
+use Rattle.line_step.specs.declared.Progress.{Progress}
+use Rattle.line_step.specs.Step.{Job, Step, with-code, line-step}
 
 -- what the lines that were taken print, what is kept after them, and the bytes behind them
 pub record Part : Type 0 where
@@ -25,37 +27,37 @@ none job l = record { text = []; job = job; unused = l }
 unfoldable pub behind : List ℕ → Part → Part
 behind s p = record { text = s ++ p .text; job = p .job; unused = p .unused }
 
--- a further line is taken while the call goes on and a frame's 327 bytes have room
-unfoldable pub goes-on : Job → ℕ → Bool
-goes-on job room = eqb (job .code) 0 && leb 327 room
+-- a further line is taken while the call goes on, one is still to be taken, and the longest that is printed for one has room
+unfoldable pub goes-on : Progress → ℕ → ℕ → Bool
+goes-on p most room = eqb (p .code) 0 && (ltb 0 most && leb frame-room room)
 
 -- the whole lines at the front of a text, of which `held` are the bytes of the line so far
-unfoldable pub part : List ℤ → Job → ℕ → List ℕ → List ℕ → Part
-part t job room held [] = none job held
-part t job room held (b ∷ text) =
+unfoldable pub part : List ℤ → Job → ℕ → ℕ → List ℕ → List ℕ → Part
+part t job most room held [] = none job held
+part t job most room held (b ∷ text) =
     let s : Step = line-step t job held in
-    cond (goes-on job room)
-    (cond (eqb b 10) (behind (s .text) (part t (s .job) (room - length (s .text)) [] text)) (part t job room (held ++ (b ∷ [])) text))
+    cond (goes-on (job .progress) most room)
+    (cond (eqb b 10) (behind (s .text) (part t (s .job) (most - 1) (room - length (s .text)) [] text)) (part t job most room (held ++ (b ∷ [])) text))
     (none job (held ++ (b ∷ text)))
 
--- what `lines` answers and leaves: the state block, the counts with their code, the number of bytes used and written, and the lent output
+-- what `lines` answers and leaves: the state block and the progress, the number of bytes used and written, and the lent output
 pub data Answer : Type 0 where
   answer : Job → ℕ → ℕ → List ℕ → Answer
 
 unfoldable pub given : List ℕ → List ℕ → Part → Answer
 given input out p = answer (p .job) (length input - length (p .unused)) (length (p .text)) (over (p .text) out)
 
-unfoldable pub lines : List ℤ → Job → List ℕ → List ℕ → Answer
-lines t job input out = given input out (part t job (length out) [] input)
+unfoldable pub lines : List ℤ → Job → ℕ → List ℕ → List ℕ → Answer
+lines t job most input out = given input out (part t job most (length out) [] input)
 
 -- how many bytes stand before the first line feed, or the end
 unfoldable pub to-feed : List ℕ → ℕ
 to-feed [] = 0
 to-feed (b ∷ l) = cond (eqb b 10) 0 (suc (to-feed l))
 
--- more than 36 bytes without a line feed are no line, whatever follows: code 9
-unfoldable pub overlong : List ℕ → ℕ → ℕ
-overlong l code = cond (eqb code 0 && ltb 36 (to-feed l)) 9 code
+-- more bytes without a line feed than the longest line has are no line, whatever follows: code 9
+unfoldable pub overlong : List ℕ → Progress → Progress
+overlong l p = cond (eqb (p .code) 0 && ltb longest (to-feed l)) (with-code p 9) p
 
 -- ---- the tables
 

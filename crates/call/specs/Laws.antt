@@ -1,113 +1,117 @@
--- What the proofs of `call` use of its definitions: lines taken out of a part of the text, the scan for a line feed, the last form, bytes moved to the front, and the tables. Assumes nothing.
+-- What the proofs of `call` use of its definitions: lines taken out of a part of the text, the last form, bytes moved to the front, and the tables. Assumes nothing.
 use mathlib.Core.Path.{_≡_, refl, ap, sym, _∙_}
 use mathlib.Core.Bool.{Bool, true, false, cond, _&&_}
 use mathlib.Core.List.{List, [], _∷_, _++_, append-assoc, append-nil}
 use Prim.Native.Nat.{ℕ, suc, _+_, _-_, _≤_, _<_, min}
 use native.Mathlib.Omega.{arith}
-use native.Mathlib.Numerals.{add-one}
 use native.Mathlib.Nat.{sub-zero, zero-add, add-comm}
-use lib.Dec.{eqb}
+use lib.Dec.{eqb, leb, ltb}
 use lib.IntN.{ℤ}
-use lib.ListN.{length, getD, take, drop, set, drop-of-length-le, length-take, length-drop, take-append-drop}
-use lib.Seq.{drop-cons, take-length, take-all, drop-drop, append-snoc, getD-drop, getD-take, paste, slice, length-paste, drop-paste, take-paste}
-use borrow.Author.Tests.{lt-ltb, le-ltb, le-leb, lt-leb, eq-eqb, ne-eqb}
-use Rattle.count.specs.declared.Counts.{Counts}
-use Rattle.count.specs.declared.Counted.{Counted}
-use Rattle.print.specs.Print.{total, refused, over}
+use lib.ListN.{length, getD, take, drop, set, drop-of-length-le, length-append, length-take, length-drop, take-append-drop}
+use lib.Seq.{take-length, take-all, drop-drop, append-snoc, getD-drop, getD-take, take-append-seam, take-at, drop-at, paste, slice, drop-paste}
+use borrow.Author.Tests.{lt-ltb, le-ltb, le-leb, eq-eqb, ne-eqb, eqb-true, leb-true, ltb-true}
+use Rattle.bytes.specs.Bytes as Bytes
+use Rattle.print.specs.Print.{total, refused, over, frame-room, form-room}
+use Rattle.line.specs.Line.{longest}
 use Rattle.laws.specs.Bytes.{paste-more}
 use Rattle.state.specs.State as State
 use Rattle.words.specs.Words as Words
 use Rattle.words.specs.Laws as WordsLaws
-use Rattle.line_step.specs.Step.{Job, Step, line-step, kept, left}
-use Rattle.line_step.specs.Laws.{sized}
+use Rattle.line_step.specs.declared.Progress.{Progress}
+use Rattle.line_step.specs.Step.{Job, Step, kept, with-code, line-step}
+use Rattle.line_step.specs.Step as Step
+use Rattle.line_step.specs.Laws.{sized, step-lines}
 use Rattle.call.specs.Call.{line-number, last-form}
 use Rattle.call.specs.Chunk.{Part, none, behind, goes-on, part, answer, given, lines, to-feed, overlong, begun, with-state, begin}
 
 -- ---- lines taken from a part of the text
 
-goes : (job : Job) (room : ℕ) → job .code ≡ 0 → 327 ≤ room → goes-on job room ≡ true
+-- what it means that a further line is taken
+pub going : (p : Progress) (most room : ℕ) → goes-on p most room ≡ true → (p .code ≡ 0) × ((0 < most) × (frame-room ≤ room))
 unfolding goes-on
-goes job room e h = rw (eq-eqb (job .code) 0 e, le-leb 327 room h)
-
-ended : (job : Job) (room : ℕ) → (job .code ≡ 0 → ⊥) → goes-on job room ≡ false
-unfolding goes-on
-ended job room e = rw (ne-eqb (job .code) 0 e)
-
-full : (job : Job) (room : ℕ) → room < 327 → goes-on job room ≡ false
-unfolding goes-on
-full job room h = rw (lt-leb 327 room h) (by (eqb (job .code) 0))
+going p most room = by (eqb (p .code) 0) (ltb 0 most) (leb frame-room room) refl refl refl
   where
-    by : (p : Bool) → (p && false) ≡ false
-    by true = refl
-    by false = refl
+    by : (a b c : Bool) → eqb (p .code) 0 ≡ a → ltb 0 most ≡ b → leb frame-room room ≡ c → (a && (b && c)) ≡ true → (p .code ≡ 0) × ((0 < most) × (frame-room ≤ room))
+    by true true true e f g h = (eqb-true (p .code) 0 e, (ltb-true 0 most f, leb-true frame-room room g))
+    by true true false e f g h = let z : _≡_ {A = ℕ} 0 1 = cc in absurd (omega arith)
+    by true false c e f g h = let z : _≡_ {A = ℕ} 0 1 = cc in absurd (omega arith)
+    by false b c e f g h = let z : _≡_ {A = ℕ} 0 1 = cc in absurd (omega arith)
 
 -- what follows a line
-unfoldable pub follow : List ℤ → ℕ → List ℕ → Step → Part
-follow t room text s = behind (s .text) (part t (s .job) (room - length (s .text)) [] text)
+unfoldable pub follow : List ℤ → ℕ → ℕ → List ℕ → Step → Part
+follow t most room text s = behind (s .text) (part t (s .job) (most - 1) (room - length (s .text)) [] text)
 
-module _ (t : List ℤ) (job : Job) (room : ℕ) where
-  pub part-stop : (held l : List ℕ) → goes-on job room ≡ false → part t job room held l ≡ none job (held ++ l)
+module _ (t : List ℤ) (job : Job) (most room : ℕ) where
+  pub part-stop : (held l : List ℕ) → goes-on (job .progress) most room ≡ false → part t job most room held l ≡ none job (held ++ l)
   unfolding part
   part-stop held [] e = rw append-nil
   part-stop held (b ∷ l) e = rw e
 
-  pub part-line : (held l : List ℕ) → goes-on job room ≡ true → to-feed l < length l
-      → part t job room held l ≡ follow t room (drop (suc (to-feed l)) l) (line-step t job (held ++ take (to-feed l) l))
+  pub part-line : (held l : List ℕ) → goes-on (job .progress) most room ≡ true → to-feed l < length l
+      → part t job most room held l ≡ follow t most room (drop (suc (to-feed l)) l) (line-step t job (held ++ take (to-feed l) l))
   unfolding part to-feed follow
   part-line held [] e h = absurd (omega arith)
   part-line held (b ∷ l) e h = rw e (by (eqb b 10) h (part-line (held ++ (b ∷ [])) l e))
     where
       by : (p : Bool) → cond p 0 (suc (to-feed l)) < suc (length l)
-          → (to-feed l < length l → part t job room (held ++ (b ∷ [])) l ≡ follow t room (drop (suc (to-feed l)) l) (line-step t job ((held ++ (b ∷ [])) ++ take (to-feed l) l)))
-          → cond p (follow t room l (line-step t job held)) (part t job room (held ++ (b ∷ [])) l)
-          ≡ follow t room (drop (cond p 0 (suc (to-feed l))) l) (line-step t job (held ++ take (cond p 0 (suc (to-feed l))) (b ∷ l)))
+          → (to-feed l < length l → part t job most room (held ++ (b ∷ [])) l ≡ follow t most room (drop (suc (to-feed l)) l) (line-step t job ((held ++ (b ∷ [])) ++ take (to-feed l) l)))
+          → cond p (follow t most room l (line-step t job held)) (part t job most room (held ++ (b ∷ [])) l)
+          ≡ follow t most room (drop (cond p 0 (suc (to-feed l))) l) (line-step t job (held ++ take (cond p 0 (suc (to-feed l))) (b ∷ l)))
       by true h f = rw append-nil
       by false h f = f (omega arith) ∙ rw (append-snoc held b (take (to-feed l) l))
 
-  pub part-open : (held l : List ℕ) → goes-on job room ≡ true → to-feed l ≡ length l → part t job room held l ≡ none job (held ++ l)
+  pub part-open : (held l : List ℕ) → to-feed l ≡ length l → part t job most room held l ≡ none job (held ++ l)
   unfolding part to-feed behind follow
-  part-open held [] e h = rw append-nil
-  part-open held (b ∷ l) e h = rw e (by (eqb b 10) h (part-open (held ++ (b ∷ [])) l e))
+  part-open held [] h = rw append-nil
+  part-open held (b ∷ l) h = by (goes-on (job .progress) most room) (eqb b 10) h (part-open (held ++ (b ∷ [])) l)
     where
-      by : (p : Bool) → cond p 0 (suc (to-feed l)) ≡ suc (length l)
-          → (to-feed l ≡ length l → part t job room (held ++ (b ∷ [])) l ≡ none job ((held ++ (b ∷ [])) ++ l))
-          → cond p (follow t room l (line-step t job held)) (part t job room (held ++ (b ∷ [])) l) ≡ none job (held ++ (b ∷ l))
-      by true h f = absurd (omega arith)
-      by false h f = f (omega arith) ∙ rw (append-snoc held b l)
+      by : (p q : Bool) → cond q 0 (suc (to-feed l)) ≡ suc (length l)
+          → (to-feed l ≡ length l → part t job most room (held ++ (b ∷ [])) l ≡ none job ((held ++ (b ∷ [])) ++ l))
+          → cond p (cond q (follow t most room l (line-step t job held)) (part t job most room (held ++ (b ∷ [])) l)) (none job (held ++ (b ∷ l))) ≡ none job (held ++ (b ∷ l))
+      by p true h f = absurd (omega arith)
+      by true false h f = f (omega arith) ∙ rw (append-snoc held b l)
+      by false false h f = refl
 
 -- ---- the scan for a line feed
 
-module _ (l : List ℕ) (i : ℕ) (h : i < length l) where
-  pub feed-here : getD l i 0 ≡ 10 → to-feed (drop i l) ≡ 0
-  unfolding to-feed
-  feed-here e = rw (drop-cons l i 0 h, eq-eqb (getD l i 0) 10 e)
+feed-index : (l : List ℕ) → Bytes.indexOf 10 l ≡ to-feed l
+unfolding to-feed Bytes.indexOf Bytes.indexAfter
+feed-index [] = refl
+feed-index (b ∷ l) = rw (feed-index l) (by (eqb b 10))
+  where
+    by : (p : Bool) → Bytes.indexAfter p (to-feed l) ≡ cond p 0 (suc (to-feed l))
+    by true = refl
+    by false = refl
 
-  pub feed-later : (getD l i 0 ≡ 10 → ⊥) → i + to-feed (drop i l) ≡ i + 1 + to-feed (drop (i + 1) l)
-  unfolding to-feed
-  feed-later e = rw (drop-cons l i 0 h, ne-eqb (getD l i 0) 10 e, add-one i) (omega arith)
-
-pub feed-end : (l : List ℕ) (i : ℕ) → length l ≤ i → to-feed (drop i l) ≡ 0
-unfolding to-feed
-feed-end l i h = rw (drop-of-length-le l {i = i} h)
+pub found : (l : List ℕ) (from : ℕ) {r : ℕ} → r ≡ from + Bytes.indexOf 10 (Bytes.slice from (length l) l) → r ≡ from + to-feed (drop from l)
+unfolding Bytes.slice
+found l from e = e ∙ rw (take-length l, feed-index (drop from l))
 
 -- ---- the loop over the lines of a part
 
--- what is kept while the call goes on
-abbrev pub going : List ℤ → Counts → Job
-going b counts = kept b (record { code = 0; counts = counts })
-
-pub record So-far (t b₀ : List ℤ) (counts₀ : Counts) (input out₀ : List ℕ) (b : List ℤ) (counts : Counts) (out : List ℕ) (used written : ℕ) : Type 0 where
+pub record So-far (t b₀ : List ℤ) (from : Progress) (most : ℕ) (input out₀ : List ℕ) (b : List ℤ) (job : Progress) (left : ℕ) (out : List ℕ) (used written : ℕ) : Type 0 where
   pub inside : used ≤ length input
   pub fits : written ≤ length out₀
   pub length-b : length b ≡ length b₀
   pub length-out : length out ≡ length out₀
+  pub least : from .lines ≤ job .lines
+  pub few : job .lines + left ≤ from .lines + most
   pub rest : drop written out ≡ drop written out₀
-  pub parts : part t (going b₀ counts₀) (length out₀) [] input ≡ behind (take written out) (part t (going b counts) (length out₀ - written) [] (drop used input))
+  pub parts : part t (kept b₀ from) most (length out₀) [] input ≡ behind (take written out) (part t (kept b job) left (length out₀ - written) [] (drop used input))
 
-pub so-far-none : (t b : List ℤ) (counts : Counts) (input out : List ℕ) → So-far t b counts input out b counts out 0 0
+pub so-far-none : (t b : List ℤ) (from : Progress) (most : ℕ) (input out : List ℕ) → So-far t b from most input out b from most out 0 0
 unfolding behind
-so-far-none t b counts input out =
-    record { inside = omega arith; fits = omega arith; length-b = refl; length-out = refl; rest = refl; parts = rw (sub-zero (length out)) }
+so-far-none t b from most input out =
+    record {
+      inside = omega arith;
+      fits = omega arith;
+      length-b = refl;
+      length-out = refl;
+      least = omega arith;
+      few = omega arith;
+      rest = refl;
+      parts = rw (sub-zero (length out));
+    }
 
 -- no line more: what is answered
 ending : (input out out₀ : List ℕ) (job : Job) (used written : ℕ) (p : Part) → used ≤ length input → written ≤ length out₀ → length out ≡ length out₀
@@ -119,136 +123,131 @@ ending input out out₀ job used written p hu hw hl hr e =
     let o : take written out ++ drop written out₀ ≡ out = rw (← hr) (take-append-drop written out) in
     rw (e, append-nil (take written out), a, d, o)
 
-pub lines-refused : (t b : List ℤ) (from : Counted) (input out : List ℕ) → (from .code ≡ 0 → ⊥) → answer (kept b from) 0 0 out ≡ lines t (kept b from) input out
-unfolding lines kept behind none
-lines-refused t b from input out h =
-    ending input out out (kept b from) 0 0 _ (omega arith) (omega arith) refl refl (part-stop t (kept b from) (length out) [] input (ended (kept b from) (length out) h))
+-- what a line printed is within the bytes lent for it
+pub text-within : (s : Step) (text₀ : List ℕ) {job : Job} {m : ℕ} {text : List ℕ} → Step.answer job m text ≡ Step.given s text₀ → m ≤ length text
+unfolding Step.given over
+text-within s text₀ {m = m} {text = text} a =
+    let e : m ≡ length (s .text) = cc in
+    let o : text ≡ s .text ++ drop (length (s .text)) text₀ = cc in
+    rw (o, length-append) (omega arith)
 
-pub going-on : (b : List ℤ) (from : Counted) → from .code ≡ 0 → going b (from .counts) ≡ kept b from
-unfolding kept
-going-on b from e = rw e
+-- the first m bytes of a text, copied to place `at`
+copied : (out text v : List ℕ) (at m : ℕ) → at ≤ length out → m ≤ length text → m ≤ length out - at
+    → v ≡ take (length (take (m - 0) text)) (take (m - 0) text) ++ drop (length (take (m - 0) text)) (take (length out - at) (drop at out))
+    → take at out ++ (v ++ drop (length out - at) (drop at out)) ≡ take at out ++ (take m text ++ drop m (drop at out))
+copied out text v at m h k g e =
+    let n : length (take m text) ≡ m = rw length-take (omega arith) in
+    let d : length (drop at out) ≡ length out - at = rw length-drop in
+    let x : take (length out - at) (drop at out) ≡ drop at out = take-all (length out - at) (drop at out) (omega arith) in
+    let y : drop (length out - at) (drop at out) ≡ [] = drop-of-length-le (drop at out) {i = length out - at} (omega arith) in
+    rw (e, x, y, sub-zero m, take-length (take m text), n, append-nil (take m text ++ drop m (drop at out)))
 
--- what is behind a line that was taken
-taken-more : (t : List ℤ) (p v text : List ℕ) (room : ℕ) (s : Step) {q : List ℕ} {room′ : ℕ} {next : Job} → length v ≡ 327 → s .text ≡ v → p ++ v ≡ q → s .job ≡ next → room - 327 ≡ room′
-    → behind p (follow t room text s) ≡ behind q (part t next room′ [] text)
-unfolding behind follow
-taken-more t p v text room s lv e g h k = rw (e, lv, ← g, h, k, append-assoc)
-
-module _ (t b₀ : List ℤ) (counts₀ : Counts) (input out₀ : List ℕ) (b : List ℤ) (counts : Counts) (out : List ℕ) (used written : ℕ)
-    (f : So-far t b₀ counts₀ input out₀ b counts out used written) {job : Job} (hj : going b₀ counts₀ ≡ job) where
-  finished : (now : Job) (used : ℕ) → used ≤ length input → part t (going b₀ counts₀) (length out₀) [] input ≡ behind (take written out) (none now (drop used input))
-      → answer now used written out ≡ lines t job input out₀
+module _ (t b₀ : List ℤ) (from : Progress) (most : ℕ) (input out₀ : List ℕ) (b : List ℤ) (job : Progress) (left : ℕ) (out : List ℕ) (used written : ℕ)
+    (f : So-far t b₀ from most input out₀ b job left out used written) where
+  finished : part t (kept b job) left (length out₀ - written) [] (drop used input) ≡ none (kept b job) (drop used input)
+      → answer (kept b job) used written out ≡ lines t (kept b₀ from) most input out₀
   unfolding lines
-  finished now used k e = rw (← hj) (ending input out out₀ now used written _ k (f .fits) (f .length-out) (f .rest) e)
+  finished e = ending input out out₀ (kept b job) used written _ (f .inside) (f .fits) (f .length-out) (f .rest) (f .parts ∙ rw e)
 
-  -- the output is full
-  pub lines-full : length out - written < 327 → answer (going b counts) used written out ≡ lines t job input out₀
-  lines-full h =
-      finished (going b counts) used (f .inside) (f .parts ∙ rw (part-stop t (going b counts) (length out₀ - written) [] (drop used input) (full (going b counts) (length out₀ - written) (omega (arith, f .length-out)))))
+  pub lines-done : goes-on job left (length out - written) ≡ false → answer (kept b job) used written out ≡ lines t (kept b₀ from) most input out₀
+  lines-done h = finished (part-stop t (kept b job) left (length out₀ - written) [] (drop used input) (rw (f .length-out) at h))
 
-  module _ (h : 327 ≤ length out - written) where
-    open-room : goes-on (going b counts) (length out₀ - written) ≡ true
-    unfolding kept
-    open-room = goes (going b counts) (length out₀ - written) refl (omega (arith, f .length-out))
+  -- there is no line feed behind
+  pub lines-open : {end : ℕ} → end ≡ used + to-feed (drop used input) → end ≡ length input → answer (kept b job) used written out ≡ lines t (kept b₀ from) most input out₀
+  lines-open g e = finished (part-open t (kept b job) left (length out₀ - written) [] (drop used input) (rw length-drop (omega arith)))
 
-    -- there is no line feed behind
-    pub lines-open : {end : ℕ} → end ≡ used + to-feed (drop used input) → end ≡ length input → answer (going b counts) used written out ≡ lines t job input out₀
-    lines-open g e =
-        finished (going b counts) used (f .inside) (f .parts ∙ rw (part-open t (going b counts) (length out₀ - written) [] (drop used input) open-room (rw length-drop (omega arith))))
+  -- a line is taken, or refused
+  module _ (h : goes-on job left (length out - written) ≡ true) (end : ℕ) (g : end ≡ used + to-feed (drop used input)) (n : end ≡ length input → ⊥) (k : end ≤ length input)
+      {b′ : List ℤ} {p : Progress} {m : ℕ} {text : List ℕ} (text₀ : List ℕ)
+      (a : Step.answer (kept b′ p) m text ≡ Step.given (line-step t (kept b job) (take (end - used) (drop used input))) text₀) where
+    abbrev step : Step
+    step = line-step t (kept b job) (take (end - used) (drop used input))
 
-    -- a line
-    module _ (end : ℕ) (g : end ≡ used + to-feed (drop used input)) (n : end ≡ length input → ⊥) (k : end ≤ length input) where
-      less : to-feed (drop used input) < length (drop used input)
-      less = rw length-drop (omega arith)
+    after : part t (kept b₀ from) most (length out₀) [] input ≡ behind (take written out) (follow t left (length out₀ - written) (drop (end + 1) input) step)
+    after =
+        let w : to-feed (drop used input) < length (drop used input) = rw length-drop (omega arith) in
+        let x : to-feed (drop used input) ≡ end - used = omega arith in
+        let y : used + suc (end - used) ≡ end + 1 = omega arith in
+        f .parts ∙ rw (part-line t (kept b job) left (length out₀ - written) [] (drop used input) (rw (f .length-out) at h) w, x, drop-drop, y)
 
-      after : part t (going b₀ counts₀) (length out₀) [] input
-          ≡ behind (take written out) (follow t (length out₀ - written) (drop (end + 1) input) (line-step t (going b counts) (take (end - used) (drop used input))))
-      after =
-          let x : to-feed (drop used input) ≡ end - used = omega arith in
-          let y : used + suc (end - used) ≡ end + 1 = omega arith in
-          f .parts ∙ rw (part-line t (going b counts) (length out₀ - written) [] (drop used input) open-room less, x, drop-drop, y)
+    record Is : Type 0 where
+      job-is : step .job ≡ kept b′ p
+      length-is : length (step .text) ≡ m
+      text-is : take m text ≡ step .text
 
-      module _ (r : Counted) (b′ : List ℤ) (hr : kept b′ r ≡ line-step t (going b counts) (take (end - used) (drop used input)) .job) where
-        code-is : line-step t (going b counts) (take (end - used) (drop used input)) .job .code ≡ r .code
-        unfolding kept
-        code-is = sym (ap (λ (x : Job). x .code) hr)
+    is : Is
+    unfolding Step.given over
+    is =
+        let e : m ≡ length (step .text) = cc in
+        let o : text ≡ step .text ++ drop (length (step .text)) text₀ = cc in
+        record { job-is = cc; length-is = sym e; text-is = rw (e, o) (take-append-seam (step .text) _) }
 
-        -- that is refused
-        pub lines-not : (r .code ≡ 0 → ⊥) → answer (kept b′ r) (end + 1) written out ≡ lines t job input out₀
-        unfolding follow behind none
-        lines-not z =
-            let s : Step = line-step t (going b counts) (take (end - used) (drop used input)) in
-            let q : s .job .code ≡ 0 → ⊥ = λ e. z (sym code-is ∙ e) in
-            let p : s .text ≡ [] = sized t (going b counts) (take (end - used) (drop used input)) .silent q in
-            finished (kept b′ r) (end + 1) (omega arith)
-            (after ∙ rw (p, part-stop t (s .job) (length out₀ - written - 0) [] (drop (end + 1) input) (ended (s .job) (length out₀ - written - 0) q), ← hr))
+    room : (m ≤ frame-room) × ((0 < left) × (written + m ≤ length out))
+    room =
+        let q = going job left (length out - written) h in
+        let r : length (step .text) ≤ frame-room = sized t (kept b job) (take (end - used) (drop used input)) .fits in
+        let e : length (step .text) ≡ m = is .length-is in
+        (omega arith, (q .1 .0, omega arith))
 
-        -- that is taken
-        module _ (z : r .code ≡ 0) (text₀ : List ℕ) {text : List ℕ} (ht : text ≡ left (line-step t (going b counts) (take (end - used) (drop used input))) text₀) where
-          text-is : text ≡ line-step t (going b counts) (take (end - used) (drop used input)) .text
-          unfolding left
-          text-is = ht ∙ rw (eq-eqb (line-step t (going b counts) (take (end - used) (drop used input)) .job .code) 0 (code-is ∙ z))
-
-          pub text-length : length text ≡ 327
-          text-length = rw text-is (sized t (going b counts) (take (end - used) (drop used input)) .whole (code-is ∙ z))
-
-          pub turn : {out′ : List ℕ} → length b′ ≡ length b → out′ ≡ paste out written text 327
-              → So-far t b₀ counts₀ input out₀ b′ (r .counts) out′ (end + 1) (written + 327)
-          turn {out′} lb e =
-              let w : written ≤ length out = omega arith in
-              let lw : length text ≡ 327 = text-length in
-              let lt : 327 ≤ length text = omega (arith, text-length) in
-              let lo : length out′ ≡ length out = rw e (length-paste out written text 327 (omega arith) lt) in
-              let x : take (written + 327) out′ ≡ take written out ++ text = rw e (take-paste out written text 327 w lt ∙ rw (take-all 327 text (omega (arith, text-length)))) in
-              let y : drop (written + 327) out′ ≡ drop (written + 327) out = rw e (drop-paste out written text 327 w lt) in
-              record {
-                inside = omega arith;
-                fits = omega (arith, f .length-out);
-                length-b = lb ∙ f .length-b;
-                length-out = lo ∙ f .length-out;
-                rest = y ∙ sym (drop-drop 327 written out) ∙ rw (f .rest) (drop-drop 327 written out₀);
-                parts = after ∙ taken-more t _ text _ _ _ lw (sym text-is) (sym x) (sym hr ∙ sym (going-on b′ r z)) (omega arith);
-              }
+    -- what it printed is copied behind what was written
+    pub turn : {v : List ℕ} → length b′ ≡ length b
+        → v ≡ take (length (take (m - 0) text)) (take (m - 0) text) ++ drop (length (take (m - 0) text)) (take (length out - written) (drop written out))
+        → So-far t b₀ from most input out₀ b′ p (left - 1) (take written out ++ (v ++ drop (length out - written) (drop written out))) (end + 1) (written + m)
+    unfolding follow behind
+    turn {v = w} lb e =
+        let q = step-lines t (kept b job) (take (end - used) (drop used input)) in
+        let z : step .job .progress .lines ≡ p .lines = ap (λ (j : Job). j .progress .lines) (is .job-is) in
+        let r = room in
+        let v : List ℕ = take m text in
+        let lv : length v ≡ m = ap length (is .text-is) ∙ is .length-is in
+        let lw : length (take written out ++ v) ≡ written + m = rw (length-append, lv, length-take) (omega arith) in
+        let d : length out₀ - written - m ≡ length out₀ - (written + m) = omega arith in
+        let lt : m ≤ length text = text-within step text₀ a in
+        let s : take written out ++ (w ++ drop (length out - written) (drop written out)) ≡ (take written out ++ v) ++ drop (written + m) out =
+        copied out text w written m (omega arith) lt (omega arith) e ∙ rw (drop-drop m written out, append-assoc) in
+        record {
+          inside = omega arith;
+          fits = omega (arith, f .length-out);
+          length-b = lb ∙ f .length-b;
+          length-out = rw s (rw (length-append, lw, length-drop) (omega (arith, f .length-out)));
+          least = omega (arith, f .least);
+          few = omega (arith, f .few);
+          rest = rw (s, drop-at (take written out ++ v) (drop (written + m) out) (written + m) lw) (sym (drop-drop m written out) ∙ rw (f .rest) (drop-drop m written out₀));
+          parts = after ∙ rw (s, take-at (take written out ++ v) (drop (written + m) out) (written + m) lw, ← is .text-is, is .job-is, lv, d, append-assoc);
+        }
 
 -- ---- the other functions, by the tests of their code
 
-pub overlong-ended : (l : List ℕ) (code : ℕ) → (code ≡ 0 → ⊥) → code ≡ overlong l code
-unfolding overlong
-overlong-ended l code h = rw (ne-eqb code 0 h)
-
-module _ (l : List ℕ) (code n : ℕ) (h : code ≡ 0) (e : n ≡ 0 + to-feed l) where
-  pub overlong-yes : 36 < n → 9 ≡ overlong l code
+module _ (l : List ℕ) (p : Progress) where
+  pub overlong-ended : (p .code ≡ 0 → ⊥) → p ≡ overlong l p
   unfolding overlong
-  overlong-yes k = rw (eq-eqb code 0 h, lt-ltb 36 (to-feed l) (omega arith))
+  overlong-ended h = rw (ne-eqb (p .code) 0 h)
 
-  pub overlong-no : n ≤ 36 → 0 ≡ overlong l code
-  unfolding overlong
-  overlong-no k = rw (h, le-ltb 36 (to-feed l) (omega arith))
+  module _ {n : ℕ} (h : p .code ≡ 0) (e : n ≡ 0 + to-feed l) where
+    pub overlong-yes : {q : Progress} → longest < n → q ≡ with-code p 9 → q ≡ overlong l p
+    unfolding overlong
+    overlong-yes k g = g ∙ rw (eq-eqb (p .code) 0 h, lt-ltb longest (to-feed l) (omega arith))
 
-pub number-below : (c : Counts) → c .frames < 360000 → c .frames + 1 ≡ line-number c
-unfolding line-number
-number-below c h = omega arith
-
-pub number-last : (c : Counts) → 360000 ≤ c .frames → 360001 ≡ line-number c
-unfolding line-number
-number-last c h = omega arith
+    pub overlong-no : n ≤ longest → p ≡ overlong l p
+    unfolding overlong
+    overlong-no k = rw (eq-eqb (p .code) 0 h, le-ltb longest (to-feed l) (omega arith))
 
 -- what a last form is when written over lent bytes
 abbrev pub Form : ℕ → List ℕ → List ℕ → List ℕ → Type 0
-Form r out out₀ s = (r ≤ 46) × ((r ≡ length s) × (out ≡ over s out₀))
+Form r out out₀ s = (r ≤ form-room) × ((r ≡ length s) × (out ≡ over s out₀))
 
-module _ (c : Counts) (code : ℕ) (held : List ℕ) {r : ℕ} {out : List ℕ} (out₀ : List ℕ) where
-  pub form-refused : {n : ℕ} → (code ≡ 0 → ⊥) → n ≡ line-number c → Form r out out₀ (refused code n) → Form r out out₀ (last-form c code held)
+module _ (p : Progress) (held : List ℕ) {r : ℕ} {out : List ℕ} (out₀ : List ℕ) where
+  pub form-refused : {n : ℕ} → (p .code ≡ 0 → ⊥) → n ≡ line-number p → Form r out out₀ (refused (p .code) n) → Form r out out₀ (last-form p held)
   unfolding last-form
-  form-refused h e f = rw (ne-eqb code 0 h, ← e) f
+  form-refused h e f = rw (ne-eqb (p .code) 0 h, ← e) f
 
-  pub form-open : {n : ℕ} → code ≡ 0 → (length held ≡ 0 → ⊥) → n ≡ line-number c → Form r out out₀ (refused 9 n) → Form r out out₀ (last-form c code held)
+  pub form-open : {n : ℕ} → p .code ≡ 0 → (length held ≡ 0 → ⊥) → n ≡ line-number p → Form r out out₀ (refused 9 n) → Form r out out₀ (last-form p held)
   unfolding last-form
-  form-open h k e f = rw (eq-eqb code 0 h, ne-eqb (length held) 0 k, ← e) f
+  form-open h k e f = rw (eq-eqb (p .code) 0 h, ne-eqb (length held) 0 k, ← e) f
 
-  pub form-total : code ≡ 0 → length held ≡ 0 → Form r out out₀ (total (c .frames) (c .lost)) → Form r out out₀ (last-form c code held)
+  pub form-total : p .code ≡ 0 → length held ≡ 0 → Form r out out₀ (total (p .counts)) → Form r out out₀ (last-form p held)
   unfolding last-form
-  form-total h k f = rw (eq-eqb code 0 h, eq-eqb (length held) 0 k) f
+  form-total h k f = rw (eq-eqb (p .code) 0 h, eq-eqb (length held) 0 k) f
 
 -- ---- bytes moved to the front
 

@@ -1,21 +1,34 @@
 // A call as text (01, "The call text and the program"): lines to printed samples, a part of the text at a time, in lent memory.
 ghost use mathlib.Core.Path.{_≡_};
 ghost use Prim.Native.Nat.{_+_, _≤_, min};
-ghost use lib.ListN.{length, drop};
-ghost use lib.Seq.{paste, slice};
+ghost use lib.ListN.{length};
+ghost use lib.Seq.{slice};
 ghost use Rattle.line_step.specs.Step.{kept};
-ghost use Rattle.call.specs.Call.{line-number, last-form};
-ghost use Rattle.call.specs.Chunk.{Answer, lines, to-feed, overlong, Begun, begin};
-ghost use Rattle.print.specs.Print.{over};
-use count::Counted;
-use count::Counts;
+ghost use Rattle.call.specs.Call.{start, last-form};
+ghost use Rattle.call.specs.Chunk.{Answer, goes-on, lines, overlong, Begun, begin};
+ghost use Rattle.print.specs.Print.{over, form-room};
+use line::LONGEST;
+use line_step::Progress;
+use print::FORM_ROOM;
+use print::FRAME_ROOM;
 
-// The counts after the lines taken, with 0 while the call goes on, else the number of the refusal that ended it; and how many bytes of input were used and
-// of output written.
+// How far the call is after the lines taken; and how many bytes of input were used and of output written.
 pub struct Taken {
-    pub job: Counted,
+    pub job: Progress,
     pub used: usize,
     pub written: usize,
+}
+
+// How far a call is before its first line.
+pub fn start() -> Progress
+    ensures { λ r. ⌜ r ≡ start ⌝ }
+{
+    let counts = count::none();
+    Progress {
+        code: 0,
+        lines: 0,
+        counts,
+    }
 }
 
 // The lesser of two lengths.
@@ -25,110 +38,79 @@ fn lesser(a: usize, b: usize) -> usize
     if a < b { a } else { b }
 }
 
-// The place of the first line feed from `from` on, or the end.
-fn line_end(input: &[u8], from: usize) -> usize
-    requires { ⌜ from ≤ length (now input) ⌝ }
-    ensures { λ r. ⌜ (r ≡ from + to-feed (drop from (now (input .entry)))) × (r ≤ length (now (input .entry))) ⌝ }
+// Whether a further line is taken, where `most` may be and `room` bytes of output are left.
+fn goes_on(job: Progress, most: u32, room: usize) -> bool
+    ensures { λ r. ⌜ r ≡ goes-on job most room ⌝ }
 {
-    let mut i = from;
-    while i < input.len() {
-        if input[i] == 10 {
-            return i;
-        }
-        i += 1;
+    if job.code != 0 {
+        return false;
     }
-    i
+    if most == 0 {
+        return false;
+    }
+    FRAME_ROOM <= room
 }
 
-// Writes the 327 bytes of a frame at place `at`.
-fn copy(text: &[u8; 327], out: &mut [u8], at: usize)
-    requires { ⌜ (at + 327 ≤ length (now out)) × (length (now text) ≡ 327) ⌝ }
-    ensures { λ r. ⌜ now (out .exit) ≡ paste (now (out .entry)) at (now (text .entry)) 327 ⌝ }
-{
-    let mut i = 0;
-    while i < 327 {
-        out[at + i] = text[i];
-        i += 1;
-    }
-}
-
-// Takes whole lines out of `input` until there is no further line feed, `out` has no room for a frame's 327 bytes, or a line is refused. What they print
-// is at the front of `out`; the bytes behind it are as they were.
-pub fn lines(t: &[i16], b: &mut [i16], from: Counted, input: &[u8], out: &mut [u8]) -> Taken
-    ensures { λ r. ⌜ Answer.answer (kept (now (b .exit)) (r .job)) (r .used) (r .written) (now (out .exit)) ≡ lines (now (t .entry)) (kept (now (b .entry)) from) (now (input .entry)) (now (out .entry)) ⌝ }
+// Takes whole lines out of `input` until `most` are taken, there is no further line feed, `out` has no room for what a line may print, or a line is refused.
+// What they print is at the front of `out`; the bytes behind it are as they were.
+pub fn lines(
+    t: &[i16],
+    b: &mut [i16],
+    from: Progress,
+    most: u32,
+    input: &[u8],
+    out: &mut [u8],
+) -> Taken
+    ensures { λ r. ⌜ Answer.answer (kept (now (b .exit)) (r .job)) (r .used) (r .written) (now (out .exit)) ≡ lines (now (t .entry)) (kept (now (b .entry)) from) most (now (input .entry)) (now (out .entry)) ⌝ }
     ensures { λ r. ⌜ (r .used ≤ length (now (input .entry))) × (r .written ≤ length (now (out .entry))) ⌝ }
+    ensures { λ r. ⌜ (from .lines ≤ r .job .lines) × (r .job .lines ≤ from .lines + most) ⌝ }
 {
-    if from.code != 0 {
-        return Taken {
-            job: from,
-            used: 0,
-            written: 0,
-        };
-    }
-    let mut counts = from.counts;
-    let mut text = [0u8; 327];
+    let mut job = from;
+    let mut left = most;
+    let mut text = [0u8; FRAME_ROOM];
     let mut used = 0;
     let mut written = 0;
-    while 327 <= out.len() - written {
-        let end = line_end(input, used);
+    while goes_on(job, left, out.len() - written) {
+        let end = bytes::scan::find(input, used, input.len(), 10);
         if end == input.len() {
-            let job = Counted { code: 0, counts };
             return Taken { job, used, written };
         }
-        let step = line_step::line_step(t, b, counts, &input[used..end], &mut text);
+        let step = line_step::line_step(t, b, job, &input[used..end], &mut text);
+        let n = step.written;
+        bytes::copy(&text[0..n], &mut out[written..]);
+        job = step.job;
+        left -= 1;
         used = end + 1;
-        if step.code != 0 {
-            return Taken {
-                job: step,
-                used,
-                written,
-            };
-        }
-        counts = step.counts;
-        copy(&text, out, written);
-        written += 327;
+        written += n;
     }
-    let job = Counted { code: 0, counts };
     Taken { job, used, written }
 }
 
-// More than 36 bytes held without a line feed are no line, whatever follows: 9, unless the call has ended.
-pub fn overlong(code: u32, held: &[u8]) -> u32
-    ensures { λ r. ⌜ r ≡ overlong (now (held .entry)) code ⌝ }
+// More bytes held without a line feed than the longest line has are no line, whatever follows: 9, unless the call has ended.
+pub fn overlong(job: Progress, held: &[u8]) -> Progress
+    ensures { λ r. ⌜ r ≡ overlong (now (held .entry)) job ⌝ }
 {
-    if code != 0 {
-        return code;
+    if job.code != 0 {
+        return job;
     }
-    let n = line_end(held, 0);
-    if n > 36 {
-        return 9;
+    if LONGEST < bytes::scan::find(held, 0, held.len(), 10) {
+        return line_step::with_code(job, 9);
     }
-    0
-}
-
-// The number of the line that comes next or was refused, from 1.
-fn line_number(c: Counts) -> u32
-    ensures { λ r. ⌜ r ≡ line-number c ⌝ }
-{
-    if c.frames < 360000 {
-        c.frames + 1
-    } else {
-        360001
-    }
+    job
 }
 
 // The last form of a call, where `held` are the bytes behind its last line feed: its total, or its refusal. Answers its length; the bytes behind it are as they were.
-pub fn finish(job: Counted, held: &[u8], out: &mut [u8; 46]) -> usize
-    ensures { λ r. ⌜ (r ≤ 46) × ((r ≡ length (last-form (job .counts) (job .code) (now (held .entry)))) × (now (out .exit) ≡ over (last-form (job .counts) (job .code) (now (held .entry))) (now (out .entry)))) ⌝ }
+pub fn finish(job: Progress, held: &[u8], out: &mut [u8; FORM_ROOM]) -> usize
+    ensures { λ r. ⌜ (r ≤ form-room) × ((r ≡ length (last-form job (now (held .entry)))) × (now (out .exit) ≡ over (last-form job (now (held .entry))) (now (out .entry)))) ⌝ }
 {
-    let counts = job.counts;
     if job.code != 0 {
-        return print::refused(job.code, line_number(counts), out);
+        return print::refused(job.code, line_step::one_more(job.lines), out);
     }
     if held.len() != 0 {
-        return print::refused(9, line_number(counts), out);
+        return print::refused(9, line_step::one_more(job.lines), out);
     }
-    print::total(counts.frames, counts.lost, out)
+    let counts = job.counts;
+    print::total(counts, out)
 }
 
 // Moves the bytes from `from` up to `to` to the front of a buffer, and answers how many they are.

@@ -1,135 +1,214 @@
 // Jobs that are stopped and resumed: the job file, which is written aside and renamed, and where a resumed job reads and writes.
-pub mod crc32;
 pub mod names;
 pub mod parts;
 
 ghost use mathlib.Core.Path.{_≡_};
 ghost use mathlib.Core.List.{_++_};
-ghost use Prim.Native.Nat.{_-_, _≤_};
+ghost use Prim.Native.Nat.{_≤_};
 ghost use lib.ListN.{length, take};
-ghost use Rattle.words.specs.Words.{number-bytes};
-ghost use Rattle.job.specs.Job.{start, pack, place, sum-fits, counts-fit, check, Answer, read};
+ghost use Rattle.crc32.specs.Crc32.{crc32};
+ghost use Rattle.words.specs.Words.{number-bytes, numbers-bytes};
+ghost use Rattle.job.specs.Job.{start, widths, head, state-and-counts, pack, fields, counts, place, sum-fits, known, fits, check, Answer, read};
 use count::Counts;
+use count::NUMBERS;
+use line::LONGEST;
+use line::SHORTEST;
+use print::FRAME_ROOM;
 
 // Where a stopped job goes on, beside its state block.
 pub struct Saved {
     pub counts: Counts,
-    // How many bytes of the call text were taken.
+    // How many lines were taken, and how many bytes of the call they are.
+    pub lines: u32,
     pub at: u64,
-    // The CRC-32 of the table file that the job was begun with.
+    // How many bytes of the output are written.
+    pub written: u64,
+    // The CRC-32 of the table file that the job was begun with, and of the bytes of the call that were taken.
     pub tables: u32,
+    pub call: u32,
 }
 
-// An answer: 0 and the place, or the number of a refusal.
-pub struct Found {
-    pub code: u32,
-    pub place: Saved,
+// What is found in a job file: the number of its refusal, or where the job goes on.
+pub enum Found {
+    Refused(u32),
+    Job(Saved),
 }
+
+// `HDMK`, low byte first.
+const TAG: u64 = 0x4b4d4448;
+
+// Raised whenever a field gets another meaning.
+const VERSION: u64 = 1;
+
+// How many numbers the head has, and how many bytes each of them.
+const HEAD: usize = 7;
+
+const WIDTHS: [usize; HEAD] = [4, 4, 8, 8, 4, 4, 4];
 
 // Where a new job begins, with tables of this CRC-32.
 pub fn start(tables: u32) -> Saved
     ensures { λ r. ⌜ r ≡ start tables ⌝ }
 {
-    let counts = Counts { frames: 0, lost: 0 };
+    let counts = count::none();
     Saved {
         counts,
+        lines: 0,
         at: 0,
+        written: 0,
         tables,
+        call: 0,
     }
 }
 
-// Writes the lowest bytes of n at the places from `from` up to `to`.
-fn put(n: u64, from: usize, to: usize, out: &mut [u8])
-    requires { ⌜ (from ≤ to) × (to ≤ length (now out)) ⌝ }
-    ensures { λ r. ⌜ take to (now (out .exit)) ≡ take from (now (out .entry)) ++ number-bytes (to - from) n ⌝ }
+// The head at the front of `out`.
+fn put_head(p: Saved, out: &mut [u8])
+    requires { ⌜ 36 ≤ length (now out) ⌝ }
+    ensures { λ r. ⌜ take 36 (now (out .exit)) ≡ numbers-bytes widths (head p) ⌝ }
 {
-    words::put_number(n, &mut out[from..to]);
+    let widths = WIDTHS;
+    let values = [
+        TAG,
+        VERSION,
+        p.at,
+        p.written,
+        p.tables as u64,
+        p.call as u64,
+        p.lines as u64,
+    ];
+    words::put_numbers(&widths, &values, &mut out[0..36]);
+}
+
+// State and counts behind the head.
+fn put_state(block: &[i16; 234], c: Counts, out: &mut [u8])
+    requires { ⌜ 512 ≤ length (now out) ⌝ }
+    ensures { λ r. ⌜ take 512 (now (out .exit)) ≡ take 36 (now (out .entry)) ++ state-and-counts (now (block .entry)) c ⌝ }
+{
+    words::to_bytes(block, &mut out[36..504]);
+    let widths = [4usize; NUMBERS];
+    let values = count::numbers(c);
+    words::put_numbers(&widths, &values, &mut out[504..512]);
+}
+
+// The check sum behind them.
+fn put_sum(out: &mut [u8])
+    requires { ⌜ 516 ≤ length (now out) ⌝ }
+    ensures { λ r. ⌜ take 516 (now (out .exit)) ≡ take 512 (now (out .entry)) ++ number-bytes 4 (crc32 (take 512 (now (out .entry)))) ⌝ }
+{
+    let sum = crc32::crc32(&out[0..512]);
+    words::put_number(sum as u64, &mut out[512..516]);
 }
 
 // The job file.
-pub fn pack(block: &[i16; 234], p: Saved) -> [u8; 492]
+pub fn pack(block: &[i16; 234], p: Saved) -> [u8; 516]
     ensures { λ r. ⌜ r ≡ pack (now (block .entry)) p ⌝ }
 {
-    let mut out = [0u8; 492];
-    words::to_bytes(block, &mut out);
-    put(p.counts.frames as u64, 468, 472, &mut out);
-    put(p.counts.lost as u64, 472, 476, &mut out);
-    put(p.at, 476, 484, &mut out);
-    put(p.tables as u64, 484, 488, &mut out);
-    let sum = crc32::crc32(&out[0..488]);
-    put(sum as u64, 488, 492, &mut out);
+    let mut out = [0u8; 516];
+    let counts = p.counts;
+    put_head(p, &mut out);
+    put_state(block, counts, &mut out);
+    put_sum(&mut out);
     out
+}
+
+// The numbers of the head.
+fn fields(bytes: &[u8]) -> [u64; HEAD]
+    ensures { λ r. ⌜ r ≡ fields (now (bytes .entry)) ⌝ }
+{
+    let widths = WIDTHS;
+    let mut values = [0u64; HEAD];
+    words::numbers(&widths, bytes, &mut values);
+    values
+}
+
+// The counts in a job file.
+fn counts(bytes: &[u8]) -> Counts
+    requires { ⌜ length (now bytes) ≡ 516 ⌝ }
+    ensures { λ r. ⌜ r ≡ counts (now (bytes .entry)) ⌝ }
+{
+    let widths = [4usize; NUMBERS];
+    let mut values = [0u64; NUMBERS];
+    words::numbers(&widths, &bytes[504..512], &mut values);
+    count::of_numbers(values)
 }
 
 // The place in a job file.
 fn place(bytes: &[u8]) -> Saved
-    requires { ⌜ length (now bytes) ≡ 492 ⌝ }
+    requires { ⌜ length (now bytes) ≡ 516 ⌝ }
     ensures { λ r. ⌜ r ≡ place (now (bytes .entry)) ⌝ }
 {
-    let frames = words::number(&bytes[468..472]) as u32;
-    let lost = words::number(&bytes[472..476]) as u32;
-    let at = words::number(&bytes[476..484]);
-    let tables = words::number(&bytes[484..488]) as u32;
-    let counts = Counts { frames, lost };
-    Saved { counts, at, tables }
+    let counts = counts(bytes);
+    let values = fields(bytes);
+    Saved {
+        counts,
+        lines: values[6] as u32,
+        at: values[2],
+        written: values[3],
+        tables: values[4] as u32,
+        call: values[5] as u32,
+    }
 }
 
 fn sum_fits(bytes: &[u8]) -> bool
-    requires { ⌜ length (now bytes) ≡ 492 ⌝ }
+    requires { ⌜ length (now bytes) ≡ 516 ⌝ }
     ensures { λ r. ⌜ r ≡ sum-fits (now (bytes .entry)) ⌝ }
 {
-    words::number(&bytes[488..492]) == crc32::crc32(&bytes[0..488]) as u64
+    words::number(&bytes[512..516]) == crc32::crc32(&bytes[0..512]) as u64
 }
 
-fn counts_fit(p: Saved) -> bool
-    ensures { λ r. ⌜ r ≡ counts-fit p ⌝ }
+fn known(bytes: &[u8]) -> bool
+    ensures { λ r. ⌜ r ≡ known (now (bytes .entry)) ⌝ }
 {
-    let frames = p.counts.frames;
-    if frames < p.counts.lost {
-        return false;
-    }
-    if 360000 < frames {
-        return false;
-    }
-    if p.at < 15 * (frames as u64) {
-        return false;
-    }
-    p.at <= 37 * (frames as u64)
+    let values = fields(bytes);
+    (values[0] == TAG) & (values[1] == VERSION)
 }
 
-// Whether a job file can be used with tables of this CRC-32: 0; 3 where it has not 492 bytes; 22 where its check sum or its counts don't fit; 23 where it
-// was begun with other tables; 4 where its predictor or its delay is out of range.
+fn fits(p: Saved) -> bool
+    ensures { λ r. ⌜ r ≡ fits p ⌝ }
+{
+    let c = p.counts;
+    let lines = p.lines as u64;
+    let least = (SHORTEST as u64 + 1) * lines;
+    let most = (LONGEST as u64 + 1) * lines;
+    let room = (FRAME_ROOM as u64) * lines;
+    count::fits(c)
+        & (count::frames_are(p.lines, c)
+            & ((least <= p.at) & ((p.at <= most) & (p.written <= room))))
+}
+
+// Whether a job file can be used with tables of this CRC-32: 0; 3 where it has not 516 bytes; 22 where its check sum or its numbers don't fit; 25 where it has another form or
+// version; 23 where it was begun with other tables; 4 where its predictor or its delay is out of range.
 fn check(bytes: &[u8], tables: u32) -> u32
     ensures { λ r. ⌜ r ≡ check (now (bytes .entry)) tables ⌝ }
 {
-    if bytes.len() != 492 {
+    if bytes.len() != 516 {
         return 3;
     }
     if !sum_fits(bytes) {
         return 22;
     }
+    if !known(bytes) {
+        return 25;
+    }
     let p = place(bytes);
-    if !counts_fit(p) {
+    if !fits(p) {
         return 22;
     }
     if p.tables != tables {
         return 23;
     }
     let mut block = [0i16; 234];
-    words::from_bytes(&bytes[0..468], &mut block);
+    words::from_bytes(&bytes[36..504], &mut block);
     state::state_check(&block)
 }
 
-// Reads a job file, with tables of this CRC-32 at hand: 0, the place, and the state block written; or why it is refused, and the block as it was.
+// Reads a job file, with tables of this CRC-32 at hand: where the job goes on, and the state block written; or why it is refused, and the block as it was.
 pub fn read(bytes: &[u8], tables: u32, block: &mut [i16; 234]) -> Found
-    ensures { λ r. ⌜ Answer.answer (r .code) (r .place) (now (block .exit)) ≡ read (now (bytes .entry)) tables (now (block .entry)) ⌝ }
+    ensures { λ r. ⌜ Answer.answer r (now (block .exit)) ≡ read (now (bytes .entry)) tables (now (block .entry)) ⌝ }
 {
     let code = check(bytes, tables);
     if code != 0 {
-        let place = start(0);
-        return Found { code, place };
+        return Found::Refused(code);
     }
-    words::from_bytes(&bytes[0..468], block);
-    let place = place(bytes);
-    Found { code, place }
+    words::from_bytes(&bytes[36..504], block);
+    Found::Job(place(bytes))
 }

@@ -1,41 +1,39 @@
-// A resumed call, a part at a time: where it is read from, where its forms go, how many frames a part has, and what is said of it. The files are the program's.
+// A resumed call, a part at a time: whether it is the job's call, where it is read from and its forms go, how many lines a part has, and what is asked for. The files are the program's.
 ghost use mathlib.Core.Path.{_≡_};
 ghost use Prim.Native.Nat.{_+_, _-_, _*_, _≤_, min};
 ghost use lib.ListN.{length};
-ghost use Rattle.line_step.specs.Step.{kept};
-ghost use Rattle.print.specs.Print.{over};
-ghost use Rattle.job.specs.Part.{position, offset, Answer, part, wanted, saved};
+ghost use Rattle.job.specs.Part.{position, read-again, call-check, progress, Answer, part, wanted};
 use crate::Saved;
-use count::Counted;
-use count::Counts;
+use line_step::Progress;
 
-// A part's answer: the counts with their code, 0 while the call goes on; the place in the text behind the lines taken, how many bytes of output
-// were written, and how many frames may follow.
+// A part's answer: 0 while the call goes on, else the number of the refusal that ended it; where the job goes on behind the lines taken, how many bytes they print, and how many
+// lines may follow.
 pub struct Decoded {
-    pub job: Counted,
-    pub at: u64,
+    pub code: u32,
+    pub place: Saved,
     pub written: usize,
     pub left: u32,
 }
 
-// The number of frames that is asked for, 360,001 at most, which no call has; not good where it is no decimal number.
+// What is read again of a call before its job goes on: the CRC-32 of the bytes so far, and how many are left of those that were taken.
+pub struct Again {
+    pub sum: u32,
+    pub left: u64,
+}
+
+// The number of frames that is asked for; not good where it is no decimal number.
 pub struct Frames {
     pub good: bool,
     pub most: u32,
 }
 
+// No call has as many frames.
+pub const ALL: u32 = 4294967295;
+
 // The output that a part is lent: room for 1,000 frames. The state is saved behind each part, so no more is lost where the program is stopped.
-pub const ROOM: usize = 327000;
+pub const ROOM: usize = 1000 * print::FRAME_ROOM;
 
-// How much of it is used for at most so many frames, 327 bytes each.
-fn room(most: u32, n: usize) -> usize
-    ensures { λ r. ⌜ (r ≡ min (327 * most) n) × (r ≤ n) ⌝ }
-{
-    let all = 327 * (most as usize);
-    if all < n { all } else { n }
-}
-
-// Where in the text the next line is, for `pread`.
+// A place in a file, for `pread` and `pwrite`.
 pub fn position(at: u64) -> i64
     ensures { λ r. ⌜ r ≡ position at ⌝ }
 {
@@ -46,30 +44,74 @@ pub fn position(at: u64) -> i64
     }
 }
 
-// Where in the output the next form goes: each frame before it has 327 bytes.
-pub fn offset(frames: u32) -> i64
-    ensures { λ r. ⌜ r ≡ offset frames ⌝ }
+// The lesser of two lengths.
+fn lesser(a: u64, b: usize) -> usize
+    ensures { λ r. ⌜ (r ≡ min a b) × ((r ≤ a) × (r ≤ b)) ⌝ }
 {
-    (327 * (frames as u64)) as i64
+    if a < b as u64 { a as usize } else { b }
+}
+
+// One read more of the call, from its beginning on.
+pub fn read_again(a: Again, bytes: &[u8]) -> Again
+    ensures { λ r. ⌜ r ≡ read-again a (now (bytes .entry)) ⌝ }
+{
+    let n = lesser(a.left, bytes.len());
+    let sum = crc32::more(a.sum, &bytes[0..n]);
+    Again {
+        sum,
+        left: a.left - n as u64,
+    }
+}
+
+// Whether this is the call that the job was begun with: 0; 26 where it is shorter than what was taken of that, or has other bytes there.
+pub fn call_check(p: Saved, a: Again) -> u32
+    ensures { λ r. ⌜ r ≡ call-check p a ⌝ }
+{
+    if a.left != 0 {
+        return 26;
+    }
+    if a.sum != p.call {
+        return 26;
+    }
+    0
+}
+
+// How far the call of a job is, with this code.
+pub fn progress_of(p: Saved, code: u32) -> Progress
+    ensures { λ r. ⌜ r ≡ progress p code ⌝ }
+{
+    let counts = p.counts;
+    Progress {
+        code,
+        lines: p.lines,
+        counts,
+    }
 }
 
 // Decodes the whole lines at the front of `input`, the call's text from `p.at` on, at most `most` of them and as many as `out` has room for. What they
 // print is at the front of `out`.
 pub fn part(t: &[i16], b: &mut [i16], p: Saved, most: u32, input: &[u8], out: &mut [u8]) -> Decoded
-    ensures { λ r. ⌜ Answer.answer (kept (now (b .exit)) (r .job)) (r .at) (r .written) (r .left) (now (out .exit)) ≡ part (now (t .entry)) (now (b .entry)) p most (now (input .entry)) (now (out .entry)) ⌝ }
+    ensures { λ r. ⌜ Answer.answer (now (b .exit)) (r .code) (r .place) (r .written) (r .left) (now (out .exit)) ≡ part (now (t .entry)) (now (b .entry)) p most (now (input .entry)) (now (out .entry)) ⌝ }
     ensures { λ r. ⌜ r .written ≤ length (now (out .entry)) ⌝ }
 {
-    let n = room(most, out.len());
-    let counts = p.counts;
-    let from = Counted { code: 0, counts };
-    let taken = call::lines(t, b, from, input, &mut out[0..n]);
-    let written = taken.written;
-    let at = std::num::wrapping_add_u64(p.at, taken.used as u64);
-    let left = most - (written / 327) as u32;
+    let taken = call::lines(t, b, progress_of(p, 0), most, input, out);
     let job = taken.job;
+    let used = taken.used;
+    let written = taken.written;
+    let counts = job.counts;
+    let call = crc32::more(p.call, &input[0..used]);
+    let place = Saved {
+        counts,
+        lines: job.lines,
+        at: std::num::wrapping_add_u64(p.at, used as u64),
+        written: std::num::wrapping_add_u64(p.written, written as u64),
+        tables: p.tables,
+        call,
+    };
+    let left = most - (job.lines - p.lines);
     Decoded {
-        job,
-        at,
+        code: job.code,
+        place,
         written,
         left,
     }
@@ -77,14 +119,14 @@ pub fn part(t: &[i16], b: &mut [i16], p: Saved, most: u32, input: &[u8], out: &m
 
 // One digit more.
 fn further(n: u32, b: u8) -> u32
-    requires { ⌜ (n ≤ 360001) × (48 ≤ b) ⌝ }
-    ensures { λ r. ⌜ r ≡ min (10 * n + (b - 48)) 360001 ⌝ }
+    requires { ⌜ 48 ≤ b ⌝ }
+    ensures { λ r. ⌜ r ≡ min (10 * n + (b - 48)) 4294967295 ⌝ }
 {
-    let m = 10 * n + (b - 48) as u32;
-    if m < 360001 { m } else { 360001 }
+    let m = 10 * (n as u64) + (b - 48) as u64;
+    if m < ALL as u64 { m as u32 } else { ALL }
 }
 
-// The number of frames that is asked for; where there are more than a call can have, 360,001. Not good where it is no decimal number.
+// The number of frames that is asked for, ALL at most; not good where it is no decimal number.
 pub fn wanted(text: &[u8]) -> Frames
     ensures { λ r. ⌜ r ≡ wanted (now (text .entry)) ⌝ }
 {
@@ -117,17 +159,4 @@ pub fn wanted(text: &[u8]) -> Frames
         good: true,
         most: n,
     }
-}
-
-// `(saved (frames N) (lost M))`, said where a job stopped before the end of its call; answers its length.
-pub fn saved(c: Counts, out: &mut [u8; 46]) -> usize
-    ensures { λ r. ⌜ (r ≤ 46) × ((r ≡ length (saved c)) × (now (out .exit) ≡ over (saved c) (now (out .entry)))) ⌝ }
-{
-    let n = print::total(c.frames, c.lost, out);
-    out[1] = b's';
-    out[2] = b'a';
-    out[3] = b'v';
-    out[4] = b'e';
-    out[5] = b'd';
-    n
 }

@@ -1,17 +1,22 @@
 -- Laws of the call text: what Line takes is the text of the payload that it writes, and every such text is taken. Assumes nothing.
 use mathlib.Core.Path.{_≡_, refl, ap, sym, _∙_}
 use mathlib.Core.Bool.{Bool, true, false, cond}
-use mathlib.Core.List.{List, [], _∷_, _++_}
+use mathlib.Core.List.{List, [], _∷_, _++_, append-assoc, append-nil}
 use Prim.Native.Nat.{ℕ, zero, suc, _+_, _*_, _/_, _%_, _≤_, _<_}
 use native.Mathlib.Omega.{arith}
 use native.Mathlib.Numerals.{add-one}
 use lib.Dec.{eqb}
 use lib.ListN.{length, getD, take, drop, set, length-append, length-take, length-drop, take-append-drop}
 use lib.Seq.{getD-drop, take-suc, drop-cons, set-at, append-snoc, take-at, drop-at, drop-drop, take-all, getD-take}
-use borrow.Author.Tests.{eq-eqb}
+use borrow.Author.Tests.{eq-eqb, eqb-true, eqb-false}
 use Rattle.laws.specs.Bytes.{same, same-self, same-true, unlike, both, same-parts}
 use Rattle.laws.specs.Digits.{digit, is-digit, value, value-lt, digit-is, value-digit, high, low}
-use Rattle.line.specs.Line.{hex, opening, closing, form, text, size, bytes, is-form, is, payload, answer, took, line}
+use Rattle.text.specs.Text.{Put}
+use Rattle.text.specs.Laws.{then, nothing}
+use Rattle.kind.specs.Kind.{payload-length}
+use Rattle.kind.specs.Laws.{by-kind, payload-few}
+use Rattle.line.specs.declared.Read.the-variants.{Refused, Frame}
+use Rattle.line.specs.Line.{shortest, longest, pair, hex, opening, closing, form, text, bytes, is-form, is, payload, Answer, answer, took, line}
 
 -- whether each byte is a digit
 unfoldable pub all-digits : List ℕ → Bool
@@ -24,7 +29,7 @@ twice : (n : ℕ) → 2 * suc n ≡ suc (suc (2 * n))
 twice n = omega arith
 
 pub length-hex : (l : List ℕ) → length (hex l) ≡ 2 * length l
-unfolding hex
+unfolding hex pair
 length-hex [] = refl
 length-hex (b ∷ l) = rw (length-hex l, twice (length l))
 
@@ -39,7 +44,7 @@ length-form o l = simp (length-append, length-hex)
 
 -- read and written again they are the same where they are digits
 digits-all : (n : ℕ) (l : List ℕ) → 2 * n ≤ length l → same (take (2 * n) l) (hex (bytes n l)) ≡ all-digits (take (2 * n) l)
-unfolding same hex bytes all-digits
+unfolding same hex pair bytes all-digits
 digits-all zero l h = refl
 digits-all (suc n) [] h = absurd (omega arith)
 digits-all (suc n) (a ∷ []) h = absurd (omega arith)
@@ -147,54 +152,98 @@ pub put-end : (l lent out : List ℕ) (i n : ℕ) → out ≡ bytes i l ++ drop 
 put-end l lent out i n e h = rw h at e
 
 -- a byte as the code makes it
-pub pair : (t : List ℕ) (from i a b : ℕ) → a ≡ value (getD t (from + 2 * i) 0) → b ≡ value (getD t (from + (2 * i + 1)) 0)
+pub paired : (t : List ℕ) (from i a b : ℕ) → a ≡ value (getD t (from + 2 * i) 0) → b ≡ value (getD t (from + (2 * i + 1)) 0)
     → 16 * a + b ≡ 16 * value (getD (drop from t) (2 * i) 0) + value (getD (drop from t) (2 * i + 1) 0)
-pair t from i a b e f = rw (getD-drop from t (2 * i) 0, getD-drop from t (2 * i + 1) 0, e, f)
+paired t from i a b e f = rw (getD-drop from t (2 * i) 0, getD-drop from t (2 * i + 1) 0, e, f)
 
 -- ---- sound: what is taken is the text of its kind with the bytes written, and the bytes behind those are unchanged
 
 pub record Took (l lent : List ℕ) (kind : ℕ) (left : List ℕ) : Type 0 where
   pub low : kind ≤ 3
-  pub one-of : l ≡ text kind (take (size kind) left)
-  pub behind : drop (size kind) left ≡ drop (size kind) lent
+  pub one-of : l ≡ text kind (take (payload-length kind) left)
+  pub behind : drop (payload-length kind) left ≡ drop (payload-length kind) lent
+  pub ten : length left ≡ 10
+  pub least : shortest ≤ length l
+  pub most : length l ≤ longest
 
-fits : (k : ℕ) (l lent left : List ℕ) → k ≤ 3 → is k l ≡ true → left ≡ payload k l ++ drop (size k) lent → Took l lent k left
-unfolding is is-form text payload
-fits k l lent left h e g =
-    let n : length (payload k l) ≡ size k = length-bytes (size k) (drop (length (opening k)) l) in
+-- the four lengths
+module _ (l : List ℕ) where
+  Between : ℕ → Type 0
+  Between k = length l ≡ length (opening k) + (2 * payload-length k + 2) → (shortest ≤ length l) × (length l ≤ longest)
+
+  between : (k : ℕ) → k ≤ 3 → Between k
+  unfolding Between opening payload-length
+  between = by-kind Between (λ e. (omega arith, omega arith)) (λ e. (omega arith, omega arith)) (λ e. (omega arith, omega arith)) (λ e. (omega arith, omega arith))
+
+fits : (k : ℕ) (l lent left : List ℕ) → k ≤ 3 → length lent ≡ 10 → is k l ≡ true → left ≡ payload k l ++ drop (payload-length k) lent → Took l lent k left
+unfolding is is-form text payload Between
+fits k l lent left h t e g =
+    let n : length (payload k l) ≡ payload-length k = length-bytes (payload-length k) (drop (length (opening k)) l) in
+    let b : (shortest ≤ length l) × (length l ≤ longest) = between l k h (form-length (opening k) l (payload-length k) e) in
     record {
       low = h;
-      one-of = rw (g, take-at (payload k l) (drop (size k) lent) (size k) n) (same-true _ _ e);
-      behind = rw g (drop-at (payload k l) (drop (size k) lent) (size k) n);
+      one-of = rw (g, take-at (payload k l) (drop (payload-length k) lent) (payload-length k) n) (same-true _ _ e);
+      behind = rw g (drop-at (payload k l) (drop (payload-length k) lent) (payload-length k) n);
+      ten = rw (g, length-append, length-drop) (omega (arith, n, payload-few k));
+      least = b .0;
+      most = b .1;
     }
 
-pub sound : (l lent left : List ℕ) (kind : ℕ) → line l lent ≡ answer 0 kind left → Took l lent kind left
-unfolding line took
-sound l lent left kind = by (eqb (length lent) 10) (is 0 l) (is 1 l) (is 2 l) (is 3 l) refl refl refl refl
+-- what Line can answer
+cases : (l lent : List ℕ) (P : Answer → Type 0) → ((k : ℕ) → k ≤ 3 → length lent ≡ 10 → is k l ≡ true → P (took k l lent))
+    → P (answer (Refused 9) lent) → ((length lent ≡ 10 → ⊥) → P (answer (Refused 11) lent)) → P (line l lent)
+unfolding line
+cases l lent P f g h = by (eqb (length lent) 10) (is 0 l) (is 1 l) (is 2 l) (is 3 l) refl refl refl refl refl
   where
-    end : (k : ℕ) → k ≤ 3 → is k l ≡ true → answer 0 k (payload k l ++ drop (size k) lent) ≡ answer 0 kind left → Took l lent kind left
-    end k h e g =
+    by : (t a b c d : Bool) → eqb (length lent) 10 ≡ t → is 0 l ≡ a → is 1 l ≡ b → is 2 l ≡ c → is 3 l ≡ d
+        → P (cond t (cond a (took 0 l lent) (cond b (took 1 l lent) (cond c (took 2 l lent) (cond d (took 3 l lent) (answer (Refused 9) lent))))) (answer (Refused 11) lent))
+    by false a b c d e i j k m = h (eqb-false _ _ e)
+    by true true b c d e i j k m = f 0 (omega arith) (eqb-true _ _ e) i
+    by true false true c d e i j k m = f 1 (omega arith) (eqb-true _ _ e) j
+    by true false false true d e i j k m = f 2 (omega arith) (eqb-true _ _ e) k
+    by true false false false true e i j k m = f 3 (omega arith) (eqb-true _ _ e) m
+    by true false false false false e i j k m = g
+
+pub sound : (l lent left : List ℕ) (kind : ℕ) → line l lent ≡ answer (Frame kind) left → Took l lent kind left
+unfolding took
+sound l lent left kind = cases l lent (λ (a : Answer). a ≡ answer (Frame kind) left → Took l lent kind left) yes (no 9) (λ h. no 11)
+  where
+    yes : (k : ℕ) → k ≤ 3 → length lent ≡ 10 → is k l ≡ true → took k l lent ≡ answer (Frame kind) left → Took l lent kind left
+    yes k h t e g =
         let p : k ≡ kind = cc in
-        let q : left ≡ payload k l ++ drop (size k) lent = cc in
-        rw (← p) (fits k l lent left h e q)
+        let q : left ≡ payload k l ++ drop (payload-length k) lent = cc in
+        rw (← p) (fits k l lent left h t e q)
 
-    no : (n : ℕ) → 0 < n → answer n 0 lent ≡ answer 0 kind left → Took l lent kind left
-    no n h g = let p : n ≡ 0 = cc in absurd (omega arith)
+    no : (n : ℕ) → answer (Refused n) lent ≡ answer (Frame kind) left → Took l lent kind left
+    no n g = let z : _≡_ {A = ℕ} 0 1 = cc in absurd (omega arith)
 
-    by : (t a b c d : Bool) → is 0 l ≡ a → is 1 l ≡ b → is 2 l ≡ c → is 3 l ≡ d
-        → cond t (cond a (took 0 l lent) (cond b (took 1 l lent) (cond c (took 2 l lent) (cond d (took 3 l lent) (answer 9 0 lent))))) (answer 11 0 lent) ≡ answer 0 kind left
-        → Took l lent kind left
-    by false a b c d e f g h k = no 11 (omega arith) k
-    by true true b c d e f g h k = end 0 (omega arith) e k
-    by true false true c d e f g h k = end 1 (omega arith) f k
-    by true false false true d e f g h k = end 2 (omega arith) g k
-    by true false false false true e f g h k = end 3 (omega arith) h k
-    by true false false false false e f g h k = no 9 (omega arith) k
+pub frame-line : (l lent left : List ℕ) (kind : ℕ) → line l lent ≡ answer (Frame kind) left → (kind ≤ 3) × (length left ≡ 10)
+frame-line l lent left kind e = let t = sound l lent left kind e in (t .low, t .ten)
+
+pub frame-length : (l lent left : List ℕ) (kind : ℕ) → line l lent ≡ answer (Frame kind) left → (shortest ≤ length l) × (length l ≤ longest)
+frame-length l lent left kind e = let t = sound l lent left kind e in (t .least, t .most)
+
+-- a refusal has a number, and with ten bytes lent it is 9
+pub refused-some : (l lent left : List ℕ) (n : ℕ) → line l lent ≡ answer (Refused n) left → 0 < n
+unfolding took
+refused-some l lent left n =
+    cases l lent (λ (a : Answer). a ≡ answer (Refused n) left → 0 < n)
+    (λ k h t e g. let z : _≡_ {A = ℕ} 0 1 = cc in absurd (omega arith))
+    (λ g. let z : 9 ≡ n = cc in omega arith)
+    (λ h g. let z : 11 ≡ n = cc in omega arith)
+
+pub refused-line : (l lent left : List ℕ) (n : ℕ) → length lent ≡ 10 → line l lent ≡ answer (Refused n) left → n ≡ 9
+unfolding took
+refused-line l lent left n h =
+    cases l lent (λ (a : Answer). a ≡ answer (Refused n) left → n ≡ 9)
+    (λ k i t e g. let z : _≡_ {A = ℕ} 0 1 = cc in absurd (omega arith))
+    (λ g. cc)
+    (λ i. absurd (i h))
 
 -- ---- complete: the text of each kind with each payload is taken, as that kind and those bytes
 
 hex-back : (l r : List ℕ) → ((i : ℕ) → getD l i 0 < 256) → bytes (length l) (hex l ++ r) ≡ l
-unfolding bytes hex
+unfolding bytes hex pair
 hex-back [] r h = refl
 hex-back (b ∷ l) r h =
     let k : b < 256 = h 0 in
@@ -203,7 +252,7 @@ hex-back (b ∷ l) r h =
     let g : 16 * (b / 16) + b % 16 ≡ b = omega arith in
     rw (e, f, g, hex-back l r (λ i. h (suc i)))
 
-module _ (k : ℕ) (l : List ℕ) (n : length l ≡ size k) where
+module _ (k : ℕ) (l : List ℕ) (n : length l ≡ payload-length k) where
   read-back : ((i : ℕ) → getD l i 0 < 256) → payload k (text k l) ≡ l
   unfolding payload text form
   read-back h = rw (drop-at (opening k) (hex l ++ closing) (length (opening k)) refl, ← n) (hex-back l closing h)
@@ -212,27 +261,51 @@ module _ (k : ℕ) (l : List ℕ) (n : length l ≡ size k) where
   unfolding is is-form payload text
   is-text h = ap (λ (x : List ℕ). same (text k l) (form (opening k) x)) (read-back h) ∙ same-self (text k l)
 
-  not-text : (j : ℕ) → (length (opening k) + 2 * size k ≡ length (opening j) + 2 * size j → ⊥) → is j (text k l) ≡ false
+  not-text : (j : ℕ) → (length (opening k) + 2 * payload-length k ≡ length (opening j) + 2 * payload-length j → ⊥) → is j (text k l) ≡ false
   unfolding is text
   not-text j h =
-      other-length (opening j) (text k l) (size j)
+      other-length (opening j) (text k l) (payload-length j)
       (λ e. h (let f : length (text k l) ≡ length (opening k) + (2 * length l + 2) = length-form (opening k) l in omega arith))
 
--- the kinds by number
-by-kind : (P : ℕ → Type 0) → P 0 → P 1 → P 2 → P 3 → (k : ℕ) → k ≤ 3 → P k
-by-kind P a b c d zero h = a
-by-kind P a b c d (suc zero) h = b
-by-kind P a b c d (suc (suc zero)) h = c
-by-kind P a b c d (suc (suc (suc zero))) h = d
-by-kind P a b c d (suc (suc (suc (suc n)))) h = absurd (omega arith)
-
-pub complete : (k : ℕ) → k ≤ 3 → (l lent : List ℕ) → length l ≡ size k → ((i : ℕ) → getD l i 0 < 256) → length lent ≡ 10
-    → line (text k l) lent ≡ answer 0 k (l ++ drop (size k) lent)
-unfolding line took opening size
+pub complete : (k : ℕ) → k ≤ 3 → (l lent : List ℕ) → length l ≡ payload-length k → ((i : ℕ) → getD l i 0 < 256) → length lent ≡ 10
+    → line (text k l) lent ≡ answer (Frame k) (l ++ drop (payload-length k) lent)
+unfolding line took opening payload-length
 complete k h l lent =
-    by-kind (λ (k : ℕ). length l ≡ size k → ((i : ℕ) → getD l i 0 < 256) → length lent ≡ 10 → line (text k l) lent ≡ answer 0 k (l ++ drop (size k) lent))
+    by-kind (λ (k : ℕ). length l ≡ payload-length k → ((i : ℕ) → getD l i 0 < 256) → length lent ≡ 10 → line (text k l) lent ≡ answer (Frame k) (l ++ drop (payload-length k) lent))
     (λ n b e. rw (eq-eqb (length lent) 10 e, is-text 0 l n b, read-back 0 l n b))
     (λ n b e. rw (eq-eqb (length lent) 10 e, not-text 1 l n 0 (λ z. omega arith), is-text 1 l n b, read-back 1 l n b))
     (λ n b e. rw (eq-eqb (length lent) 10 e, not-text 2 l n 0 (λ z. omega arith), not-text 2 l n 1 (λ z. omega arith), is-text 2 l n b, read-back 2 l n b))
     (λ n b e. rw (eq-eqb (length lent) 10 e, not-text 3 l n 0 (λ z. omega arith), not-text 3 l n 1 (λ z. omega arith), not-text 3 l n 2 (λ z. omega arith), is-text 3 l n b, read-back 3 l n b))
     k h
+
+-- ---- the digits of a payload written byte by byte
+
+hex-snoc : (l : List ℕ) (b : ℕ) → hex (l ++ (b ∷ [])) ≡ hex l ++ pair b
+unfolding hex
+hex-snoc [] b = append-nil (pair b)
+hex-snoc (x ∷ l) b = rw (hex-snoc l b) (sym (append-assoc (pair x) (hex l) (pair b)))
+
+pub hex-none : (l lent : List ℕ) (from : ℕ) → from ≤ length lent → Put (hex (take 0 l)) from lent from lent
+unfolding hex
+hex-none l lent from h = nothing lent from h
+
+pub hex-more : (l : List ℕ) (i : ℕ) {lent out next : List ℕ} {from m r : ℕ} → i < length l → Put (hex (take i l)) from lent m out → Put (pair (getD l i 0)) m out r next
+    → Put (hex (take (i + 1) l)) from lent r next
+hex-more l i h a b = rw (add-one, take-suc l i 0 h, hex-snoc) (then a b)
+
+pub length-hex-take : (l : List ℕ) (i : ℕ) → i ≤ length l → length (hex (take i l)) ≡ 2 * i
+length-hex-take l i h = length-hex (take i l) ∙ rw length-take (omega arith)
+
+-- ---- the text of a kind, from its opening
+
+-- it has room
+pub kind-room : (kind j : ℕ) (l lent : List ℕ) → kind ≡ j → kind ≤ 3 → length l ≡ payload-length kind → length lent ≡ longest → length (opening j) + (2 * length l + 2) ≤ length lent
+unfolding opening payload-length
+kind-room kind j l lent e h n m =
+    rw (← e, m)
+    (by-kind (λ (k : ℕ). length l ≡ payload-length k → length (opening k) + (2 * length l + 2) ≤ longest) (λ i. omega arith) (λ i. omega arith) (λ i. omega arith) (λ i. omega arith)
+    kind h n)
+
+pub kind-text : (kind j : ℕ) (l : List ℕ) {lent out : List ℕ} {r : ℕ} → kind ≡ j → Put (form (opening j) l) 0 lent r out → Put (text kind l) 0 lent r out
+unfolding text
+kind-text kind j l e p = rw e p

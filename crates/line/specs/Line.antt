@@ -7,25 +7,39 @@ use lib.Dec.{eqb}
 use lib.ListN.{length, getD, drop}
 use Rattle.laws.specs.Bytes.{same}
 use Rattle.laws.specs.Digits.{digit, value}
+use Rattle.text.specs.Text.{ascii}
+use Rattle.kind.specs.Kind.{payload-length}
+use Rattle.line.specs.declared.Read.{Read}
+use Rattle.line.specs.declared.Read.the-variants.{Refused, Frame}
 
 -- ---- the text of a frame
 
--- two digits for each byte, the higher first
+-- the bytes of the shortest and of the longest line
+abbrev pub shortest : ℕ
+shortest = 14
+
+abbrev pub longest : ℕ
+longest = 36
+
+-- the two digits of a byte, the higher first
+unfoldable pub pair : ℕ → List ℕ
+pair b = digit (b / 16) ∷ digit (b % 16) ∷ []
+
+-- two digits for each byte
 unfoldable pub hex : List ℕ → List ℕ
 hex [] = []
-hex (b ∷ l) = digit (b / 16) ∷ digit (b % 16) ∷ hex l
+hex (b ∷ l) = pair b ++ hex l
 
--- what stands before the digits: `(frame (voice `, `(frame (sid `, `(frame (quiet` and `(frame (lost` for kinds 0 to 3
+-- what stands before the digits of each kind
 unfoldable pub opening : ℕ → List ℕ
 opening kind =
-    40 ∷ 102 ∷ 114 ∷ 97 ∷ 109 ∷ 101 ∷ 32 ∷ 40
-    ∷ cond (eqb kind 0) (118 ∷ 111 ∷ 105 ∷ 99 ∷ 101 ∷ 32 ∷ [])
-    (cond (eqb kind 1) (115 ∷ 105 ∷ 100 ∷ 32 ∷ [])
-    (cond (eqb kind 2) (113 ∷ 117 ∷ 105 ∷ 101 ∷ 116 ∷ []) (108 ∷ 111 ∷ 115 ∷ 116 ∷ [])))
+    cond (eqb kind 0) (ascii "(frame (voice ")
+    (cond (eqb kind 1) (ascii "(frame (sid ")
+    (cond (eqb kind 2) (ascii "(frame (quiet") (ascii "(frame (lost")))
 
--- what stands behind them: `))`
+-- and behind them
 unfoldable pub closing : List ℕ
-closing = 41 ∷ 41 ∷ []
+closing = ascii "))"
 
 unfoldable pub form : List ℕ → List ℕ → List ℕ
 form o l = o ++ (hex l ++ closing)
@@ -33,10 +47,6 @@ form o l = o ++ (hex l ++ closing)
 -- the text of a frame of a kind with these bytes of payload
 unfoldable pub text : ℕ → List ℕ → List ℕ
 text kind l = form (opening kind) l
-
--- the bytes of payload of a kind, as `payload-length` of plc has it; line does not import plc
-unfoldable pub size : ℕ → ℕ
-size kind = cond (eqb kind 0) 10 (cond (eqb kind 1) 2 0)
 
 -- ---- the text read
 
@@ -50,24 +60,29 @@ unfoldable pub is-form : List ℕ → ℕ → List ℕ → Bool
 is-form o n l = same l (form o (bytes n (drop (length o) l)))
 
 unfoldable pub is : ℕ → List ℕ → Bool
-is kind l = is-form (opening kind) (size kind) l
+is kind l = is-form (opening kind) (payload-length kind) l
 
 unfoldable pub payload : ℕ → List ℕ → List ℕ
-payload kind l = bytes (size kind) (drop (length (opening kind)) l)
+payload kind l = bytes (payload-length kind) (drop (length (opening kind)) l)
 
 -- ---- the operation
 
--- its number, the kind, and the lent bytes as it leaves them
+-- its answer, and the lent bytes as it leaves them
 pub data Answer : Type 0 where
-  answer : ℕ → ℕ → List ℕ → Answer
+  answer : Read → List ℕ → Answer
 
--- success: the payload at the front of the lent bytes
+-- 01's number of each answer
+unfoldable pub code : Read → ℕ
+code (Refused n) = n
+code (Frame kind) = 0
+
+-- success: the kind, and the payload at the front of the lent bytes
 unfoldable pub took : ℕ → List ℕ → List ℕ → Answer
-took kind l lent = answer 0 kind (payload kind l ++ drop (size kind) lent)
+took kind l lent = answer (Frame kind) (payload kind l ++ drop (payload-length kind) lent)
 
--- 11: not ten bytes. 9: the line is of none of the four forms. A refusal names no kind (0 stands for it) and leaves the bytes as they were.
+-- 11: not ten bytes. 9: the line is of none of the four forms. A refusal leaves the bytes as they were.
 unfoldable pub line : List ℕ → List ℕ → Answer
 line l lent =
     cond (eqb (length lent) 10)
-    (cond (is 0 l) (took 0 l lent) (cond (is 1 l) (took 1 l lent) (cond (is 2 l) (took 2 l lent) (cond (is 3 l) (took 3 l lent) (answer 9 0 lent)))))
-    (answer 11 0 lent)
+    (cond (is 0 l) (took 0 l lent) (cond (is 1 l) (took 1 l lent) (cond (is 2 l) (took 2 l lent) (cond (is 3 l) (took 3 l lent) (answer (Refused 9) lent)))))
+    (answer (Refused 11) lent)

@@ -1,17 +1,30 @@
-// The operation Line (01): a line of the call text, without its line feed, to a frame's kind and payload.
+// A line of the call text (01), without its line feed: the operation Line reads one, and `write` is its inverse.
 ghost use mathlib.Core.Path.{_≡_};
 ghost use mathlib.Core.List.{_++_};
-ghost use Prim.Native.Nat.{_+_, _*_, _<_, _≤_};
+ghost use Prim.Native.Nat.{_+_, _*_, _≤_};
 ghost use lib.ListN.{length, take, drop};
 ghost use Rattle.laws.specs.Bytes.{same};
-ghost use Rattle.laws.specs.Digits.{is-digit, value};
-ghost use Rattle.line.specs.Line.{bytes, is-form, Answer, line};
+ghost use Rattle.text.specs.Text.{Put};
+ghost use Rattle.kind.specs.Kind.{payload-length};
+ghost use Rattle.line.specs.Line.{longest, pair, hex, form, text, bytes, is-form, Answer, line};
+ghost use Rattle.line.specs.Write as writing;
 ghost use Rattle.line.specs.Laws.{all-digits};
 
-// An operation's number, 0 for success, and the kind of frame; 0 beside a refusal.
-pub struct Read {
-    pub code: u32,
-    pub kind: u32,
+// Bytes of the shortest and of the longest line.
+pub const SHORTEST: usize = 14;
+
+pub const LONGEST: usize = 36;
+
+// An answer of Line: the number of its refusal, or the kind of frame.
+pub enum Read {
+    Refused(u32),
+    Frame(u32),
+}
+
+// An answer of `write`: the number of its refusal, or the length of the line.
+pub enum Written {
+    Refused(u32),
+    Done(usize),
 }
 
 // Whether `part` stands at place `from` of `text`.
@@ -29,22 +42,6 @@ fn has(text: &[u8], from: usize, part: &[u8]) -> bool
     true
 }
 
-// Whether a byte is a digit, 0-9 or a-f.
-fn is_digit(b: u8) -> bool
-    ensures { λ r. ⌜ r ≡ is-digit b ⌝ }
-{
-    if b < 48 {
-        return false;
-    }
-    if b < 58 {
-        return true;
-    }
-    if b < 97 {
-        return false;
-    }
-    b < 103
-}
-
 // Whether the `n` bytes at place `from` are digits.
 fn digits(text: &[u8], from: usize, n: usize) -> bool
     requires { ⌜ from + n ≤ length (now text) ⌝ }
@@ -52,7 +49,7 @@ fn digits(text: &[u8], from: usize, n: usize) -> bool
 {
     let mut i = 0;
     while i < n {
-        if !is_digit(text[from + i]) {
+        if !text::is_digit(text[from + i]) {
             return false;
         }
         i += 1;
@@ -78,60 +75,118 @@ fn form(text: &[u8], opening: &[u8], n: usize) -> bool
     has(text, end, b"))")
 }
 
-// The value of a digit; 0 of any other byte.
-pub fn value(b: u8) -> u8
-    ensures { λ r. ⌜ (r ≡ value b) × (r < 16) ⌝ }
-{
-    if b < 48 {
-        return 0;
-    }
-    if b < 58 {
-        return b - 48;
-    }
-    if b < 97 {
-        return 0;
-    }
-    if b < 103 {
-        return b - 87;
-    }
-    0
-}
-
 // Writes the `n` bytes whose digits stand at place `from` to the front of `payload`.
-fn put(text: &[u8], from: usize, n: usize, payload: &mut [u8])
+fn read_payload(text: &[u8], from: usize, n: usize, payload: &mut [u8])
     requires { ⌜ (from + 2 * n ≤ length (now text)) × (n ≤ length (now payload)) ⌝ }
     ensures { λ r. ⌜ now (payload .exit) ≡ bytes n (drop from (now (text .entry))) ++ drop n (now (payload .entry)) ⌝ }
 {
     let mut i = 0;
     while i < n {
-        let high = value(text[from + 2 * i]);
-        let low = value(text[from + (2 * i + 1)]);
+        let high = text::value(text[from + 2 * i]);
+        let low = text::value(text[from + (2 * i + 1)]);
         payload[i] = 16 * high + low;
         i += 1;
     }
 }
 
 // The operation Line: 11 where there are not ten bytes to write to, 9 where the line is not one of the four forms, both of which
-// leave the bytes as they were; else 0 with the kind, and the payload is at the front of the bytes.
+// leave the bytes as they were; else the kind, and the payload is at the front of the bytes.
 pub fn line(text: &[u8], payload: &mut [u8]) -> Read
-    ensures { λ r. ⌜ Answer.answer (r .code) (r .kind) (now (payload .exit)) ≡ line (now (text .entry)) (now (payload .entry)) ⌝ }
+    ensures { λ r. ⌜ Answer.answer r (now (payload .exit)) ≡ line (now (text .entry)) (now (payload .entry)) ⌝ }
 {
     if payload.len() != 10 {
-        return Read { code: 11, kind: 0 };
+        return Read::Refused(11);
     }
     if form(text, b"(frame (voice ", 10) {
-        put(text, 14, 10, payload);
-        return Read { code: 0, kind: 0 };
+        read_payload(text, 14, 10, payload);
+        return Read::Frame(0);
     }
     if form(text, b"(frame (sid ", 2) {
-        put(text, 12, 2, payload);
-        return Read { code: 0, kind: 1 };
+        read_payload(text, 12, 2, payload);
+        return Read::Frame(1);
     }
     if form(text, b"(frame (quiet", 0) {
-        return Read { code: 0, kind: 2 };
+        return Read::Frame(2);
     }
     if form(text, b"(frame (lost", 0) {
-        return Read { code: 0, kind: 3 };
+        return Read::Frame(3);
     }
-    Read { code: 9, kind: 0 }
+    Read::Refused(9)
+}
+
+// Each of the private functions below writes at a place, and answers the place behind what it wrote.
+
+fn put(part: &[u8], from: usize, out: &mut [u8]) -> usize
+    requires { ⌜ from + length (now part) ≤ length (now out) ⌝ }
+    ensures { λ r. ⌜ Put (now (part .entry)) from (now (out .entry)) r (now (out .exit)) ⌝ }
+{
+    from + bytes::copy(part, &mut out[from..])
+}
+
+// The two digits of a byte.
+fn put_byte(b: u8, from: usize, out: &mut [u8]) -> usize
+    requires { ⌜ from + 2 ≤ length (now out) ⌝ }
+    ensures { λ r. ⌜ Put (pair b) from (now (out .entry)) r (now (out .exit)) ⌝ }
+{
+    out[from] = text::digit(b as u16 / 16);
+    out[from + 1] = text::digit(b as u16);
+    from + 2
+}
+
+// Two digits for each byte.
+fn put_bytes(payload: &[u8], from: usize, out: &mut [u8]) -> usize
+    requires { ⌜ from + 2 * length (now payload) ≤ length (now out) ⌝ }
+    ensures { λ r. ⌜ Put (hex (now (payload .entry))) from (now (out .entry)) r (now (out .exit)) ⌝ }
+{
+    let mut at = from;
+    let mut i = 0;
+    while i < payload.len() {
+        at = put_byte(payload[i], at, out);
+        i += 1;
+    }
+    at
+}
+
+// `opening`, the digits, and `))`, at the front.
+fn put_form(opening: &[u8], payload: &[u8], out: &mut [u8]) -> usize
+    requires { ⌜ length (now opening) + (2 * length (now payload) + 2) ≤ length (now out) ⌝ }
+    ensures { λ r. ⌜ Put (form (now (opening .entry)) (now (payload .entry))) 0 (now (out .entry)) r (now (out .exit)) ⌝ }
+{
+    let a = put(opening, 0, out);
+    let b = put_bytes(payload, a, out);
+    put(b"))", b, out)
+}
+
+// The text of a kind, at the front.
+fn put_kind(kind: u32, payload: &[u8], out: &mut [u8]) -> usize
+    requires { ⌜ (kind ≤ 3) × ((length (now payload) ≡ payload-length kind) × (length (now out) ≡ longest)) ⌝ }
+    ensures { λ r. ⌜ Put (text kind (now (payload .entry))) 0 (now (out .entry)) r (now (out .exit)) ⌝ }
+{
+    if kind == 0 {
+        return put_form(b"(frame (voice ", payload, out);
+    }
+    if kind == 1 {
+        return put_form(b"(frame (sid ", payload, out);
+    }
+    if kind == 2 {
+        return put_form(b"(frame (quiet", payload, out);
+    }
+    put_form(b"(frame (lost", payload, out)
+}
+
+// The line of a frame: 5 for a kind above 3, 6 where the payload has not the length of its kind, 7 where `out` is not LONGEST bytes, all of which leave the bytes
+// as they were; else its length, and the line is at the front of the bytes.
+pub fn write(kind: u32, payload: &[u8], out: &mut [u8]) -> Written
+    ensures { λ r. ⌜ writing.Answer.answer r (now (out .exit)) ≡ writing.write kind (now (payload .entry)) (now (out .entry)) ⌝ }
+{
+    if !kind::known(kind) {
+        return Written::Refused(5);
+    }
+    if payload.len() != kind::payload_length(kind) {
+        return Written::Refused(6);
+    }
+    if out.len() != LONGEST {
+        return Written::Refused(7);
+    }
+    Written::Done(put_kind(kind, payload, out))
 }

@@ -1,15 +1,14 @@
--- Laws of the printed forms: loops that write from the front, and a printed sample or count read back. Assumes nothing.
+-- Laws of the printed forms: how long they are, how they are written part by part, and a printed sample or count read back. Assumes nothing.
 use mathlib.Core.Path.{_≡_, refl, sym, _∙_}
 use mathlib.Core.Bool.{Bool, true, false}
-use mathlib.Core.List.{List, [], _∷_, _++_, append-assoc, append-nil}
+use mathlib.Core.List.{List, [], _∷_, _++_}
 use Prim.Native.Nat.{ℕ, zero, suc, _+_, _-_, _*_, _/_, _%_, _^_, _≤_, _<_}
 use native.Mathlib.Omega.{arith}
 use native.Mathlib.Numerals.{add-one}
-use native.Mathlib.Nat.{add-zero, zero-add}
+use native.Mathlib.Nat.{zero-add}
 use lib.Dec.{ltb}
 use lib.IntN.{ℤ}
-use lib.ListN.{length, getD, take, drop, set, length-append}
-use lib.Seq.{take-all, take-length, paste, paste-zero, take-append-seam, drop-append-add, drop-drop}
+use lib.ListN.{length, getD, set, length-append}
 use borrow.Author.Tests.{ltb-true, ltb-false, lt-ltb, le-ltb}
 use mir.Syntax.{w16}
 use mir.Val.{toZ, SFits}
@@ -17,30 +16,26 @@ use mir.Facts.{toZ-ofZ}
 use Rattle.basic_op.specs.Ops.{low16}
 use Rattle.basic_op.specs.Low.{low-lt, low-bits}
 use Rattle.laws.specs.Lists.{at}
-use Rattle.laws.specs.Bytes.{upto, paste-front, paste-snoc}
 use Rattle.laws.specs.Digits.{value, value-digit}
-use Rattle.print.specs.Print.{word, words, pcm, digits, decimal, over}
+use Rattle.count.specs.declared.Counts.{Counts}
+use Rattle.text.specs.Text.{ascii, written, Put}
+use Rattle.text.specs.Laws.{then, nothing, one}
+use Rattle.print.specs.Print.{frame-room, form-room, word, words, pcm, digits, decimal, figure, figures, refused, over}
 
--- one sample more
-pub word-more : (l : List ℤ) (out next p : List ℕ) (n w : ℕ) → take (5 + 4 * n) out ≡ p ++ words n l → w ≡ low16 (at l n)
-    → take (5 + 4 * n + 4) next ≡ take (5 + 4 * n) out ++ word w → take (5 + 4 * (n + 1)) next ≡ p ++ words (n + 1) l
-unfolding words
-word-more l out next p n w e g k =
-    upto next _ (5 + 4 * n + 4) (5 + 4 * (n + 1)) (omega arith) k ∙ rw (e, g, add-one, append-assoc)
+-- ---- what is printed has room
 
-pub word-none : (l : List ℤ) (out : List ℕ) → take 5 out ≡ take 5 out ++ words 0 l
-unfolding words
-word-none l out = sym (append-nil (take 5 out))
+pub length-words : (n : ℕ) (l : List ℤ) → length (words n l) ≡ 4 * n
+unfolding words word
+length-words zero l = refl
+length-words (suc n) l = rw (length-append, length-words n l) (omega arith)
 
-pub words-end : (l : List ℤ) (out p : List ℕ) (n : ℕ) → take (5 + 4 * n) out ≡ p ++ words n l → n ≡ 80 → take 325 out ≡ p ++ words 80 l
-words-end l out p n e h = rw h at e
-
--- the three parts of `(pcm H)`
-pub pcm-whole : (l : List ℤ) (out v w z : List ℕ) → v ≡ paste out 0 (40 ∷ 112 ∷ 99 ∷ 109 ∷ 32 ∷ []) 5 → take 325 w ≡ take 5 v ++ words 80 l → z ≡ paste w 325 (41 ∷ 10 ∷ []) 2
-    → 325 ≤ length w → length z ≡ 327 → z ≡ pcm l
+pub pcm-room : (l : List ℤ) → length (pcm l) ≤ frame-room
 unfolding pcm
-pcm-whole l out v w z e f g k h =
-    sym (take-all 327 z (omega arith)) ∙ paste-front w (41 ∷ 10 ∷ []) z 325 k g ∙ rw (f, paste-front out (40 ∷ 112 ∷ 99 ∷ 109 ∷ 32 ∷ []) v 0 (omega arith) e, append-assoc)
+pcm-room l = simp (length-append, length-words) (omega arith)
+
+pub pcm-some : (l : List ℤ) → 0 < length (pcm l)
+unfolding pcm
+pcm-some l = simp (length-append, length-words) (omega arith)
 
 -- ---- a printed sample read back
 
@@ -118,41 +113,50 @@ decimal-few k n h = few (suc n) k n h
 pub but-last : (n : ℕ) → n < 2 ^ 32 → length (decimal (n / 10)) ≤ 9
 but-last n h = decimal-few 8 (n / 10) (omega arith)
 
--- what is written of a number, in each of the two cases: the place behind it, and the bytes
-pub written-one : (n from : ℕ) (out : List ℕ) → n < 10 → from < length out
-    → (from + 1 ≤ from + 10) × ((from + 1 ≡ from + length (decimal n)) × (set out from (48 + n) ≡ paste out from (decimal n) (length (decimal n))))
-written-one n from out h i =
-    (omega arith, rw (decimal-one n h) (refl, rw add-zero at (paste-snoc out [] out from (48 + n) (omega arith) (paste-zero out from []))))
+-- a number of 32 bits has ten at most
+decimal-ten : (n : ℕ) → n < 2 ^ 32 → length (decimal n) ≤ 10
+decimal-ten n h = decimal-few 9 n (omega arith)
 
-pub written-more : (n from last : ℕ) (d out : List ℕ) → 10 ≤ n → n < 2 ^ 32 → last < length d → last ≡ from + length (decimal (n / 10))
-    → out ≡ paste d from (decimal (n / 10)) (length (decimal (n / 10)))
-    → (last + 1 ≤ from + 10) × ((last + 1 ≡ from + length (decimal n)) × (set out last (48 + n % 10) ≡ paste d from (decimal n) (length (decimal n))))
-written-more n from last d out h f i e g = (
-  omega (arith, but-last n f),
-  rw (decimal-more n h) (rw length-append (omega arith), rw e (paste-snoc d (decimal (n / 10)) out from (48 + n % 10) (omega arith) g)),
+-- so each last form has room: two numbers behind labels of 15 and 8 bytes, and `))` with a line feed
+two-few : (a b : List ℕ) (m n : ℕ) → length a ≡ 15 → length b ≡ 8 → m < 2 ^ 32 → n < 2 ^ 32 → length (figure a m ++ figure b n ++ ascii "))\n") ≤ form-room
+unfolding figure
+two-few a b m n f g h k = simp length-append (omega (arith, decimal-ten m h, decimal-ten n k))
+
+pub figures-room : (o : List ℕ) (c : Counts) → length o ≡ 15 → c .frames < 2 ^ 32 → c .lost < 2 ^ 32 → length (figures o c) ≤ form-room
+unfolding figures
+figures-room o c f h k = two-few o _ (c .frames) (c .lost) f refl h k
+
+pub refused-room : (code line : ℕ) → code < 2 ^ 32 → line < 2 ^ 32 → length (refused code line) ≤ form-room
+unfolding refused
+refused-room code line h k = two-few _ _ code line refl refl h k
+
+-- ---- the loops and parts
+
+-- one sample more
+pub word-more : (l : List ℤ) (n w : ℕ) {lent out next : List ℕ} {from m r : ℕ} → Put (words n l) from lent m out → w ≡ low16 (at l n) → Put (word w) m out r next
+    → Put (words (n + 1) l) from lent r next
+unfolding words
+word-more l n w a e b = rw add-one (then a (rw e at b))
+
+pub word-none : (l : List ℤ) (lent : List ℕ) (from : ℕ) → from ≤ length lent → Put (words 0 l) from lent from lent
+unfolding words
+word-none l lent from h = nothing lent from h
+
+-- a number of one digit, and one digit behind the others
+pub number-one : (n from : ℕ) (lent : List ℕ) → n < 10 → from < length lent → (from + 1 ≤ from + 10) × Put (decimal n) from lent (from + 1) (set lent from (48 + n))
+number-one n from lent h i = (omega arith, rw (decimal-one n h) (one lent from (48 + n) (from + 1) i refl))
+
+pub number-more : (n from last : ℕ) (lent out : List ℕ) → 10 ≤ n → n < 2 ^ 32 → last < length out → Put (decimal (n / 10)) from lent last out
+    → (last + 1 ≤ from + 10) × Put (decimal n) from lent (last + 1) (set out last (48 + n % 10))
+number-more n from last lent out h f i p = (
+  omega (arith, but-last n f, p .place),
+  rw (decimal-more n h) (then p (one out last (48 + n % 10) (last + 1) i refl)),
 )
 
--- a text built in lent bytes, each part behind the others
-pub over-none : (p out z : List ℕ) → z ≡ paste out 0 p (length p) → z ≡ over p out
-unfolding over
-over-none p out z e = e ∙ rw (take-length p, zero-add (length p))
-
-pub over-more : (p q out y z : List ℕ) (n : ℕ) → n ≡ length p → y ≡ over p out → z ≡ paste y n q (length q) → z ≡ over (p ++ q) out
-unfolding over
-over-more p q out y z n h e g =
-    g ∙ rw (e, take-length q, h, take-append-seam p (drop (length p) out), drop-append-add p (drop (length p) out) (length q), drop-drop (length q) (length p) out, length-append p q)
-
--- a text of five parts, each written behind the others
-pub five : (a b d e f v w x y z out : List ℕ) (m n k : ℕ) → v ≡ paste out 0 a (length a) → w ≡ paste v (length a) b (length b)
-    → m ≡ length a + length b → x ≡ paste w m d (length d) → n ≡ m + length d → y ≡ paste x n e (length e) → k ≡ n + length e → z ≡ paste y k f (length f)
-    → (k + length f ≡ length (a ++ (b ++ (d ++ (e ++ f))))) × (z ≡ over (a ++ (b ++ (d ++ (e ++ f)))) out)
-five a b d e f v w x y z out m n k h1 h2 g1 h3 g2 h4 g3 h5 =
-    let p1 : v ≡ over a out = over-none a out v h1 in
-    let p2 : w ≡ over (a ++ b) out = over-more a b out v w (length a) refl p1 h2 in
-    let p3 : x ≡ over ((a ++ b) ++ d) out = over-more (a ++ b) d out w x m (rw length-append (omega arith)) p2 h3 in
-    let p4 : y ≡ over (((a ++ b) ++ d) ++ e) out = over-more ((a ++ b) ++ d) e out x y n (simp length-append (omega arith)) p3 h4 in
-    let p5 : z ≡ over ((((a ++ b) ++ d) ++ e) ++ f) out = over-more (((a ++ b) ++ d) ++ e) f out y z k (simp length-append (omega arith)) p4 h5 in
-    (simp length-append (omega arith), simp append-assoc at p5)
+-- what is written from the front is written over it
+pub front : {s lent out : List ℕ} {r : ℕ} → Put s 0 lent r out → (r ≡ length s) × (out ≡ over s lent)
+unfolding over written
+front {s} p = (p .place ∙ zero-add (length s), p .bytes ∙ rw zero-add)
 
 -- the number whose decimal digits are those of a and then l
 unfoldable pub read : ℕ → List ℕ → ℕ

@@ -1,4 +1,4 @@
--- The printed forms of the decoding program (01, "The call text and the program"), each ended by a line feed. A text is the list of its bytes in ASCII.
+-- The printed forms of the decoding program (01, "The call text and the program"), each ended by a line feed.
 use mathlib.Core.Bool.{cond}
 use mathlib.Core.List.{List, [], _∷_, _++_}
 use Prim.Native.Nat.{ℕ, zero, suc, _+_, _/_, _%_}
@@ -8,6 +8,15 @@ use lib.ListN.{length, drop}
 use Rattle.basic_op.specs.Ops.{low16}
 use Rattle.laws.specs.Digits.{digit}
 use Rattle.laws.specs.Lists.{at}
+use Rattle.text.specs.Text.{ascii}
+use Rattle.count.specs.declared.Counts.{Counts}
+
+-- the longest that is printed for a frame, and the longest last form
+abbrev pub frame-room : ℕ
+frame-room = 327
+
+abbrev pub form-room : ℕ
+form-room = 46
 
 -- four digits of a number of 16 bits, the highest first
 unfoldable pub word : ℕ → List ℕ
@@ -20,7 +29,7 @@ words (suc n) l = words n l ++ word (low16 (at l n))
 
 -- `(pcm H)` of a frame's 80 samples
 unfoldable pub pcm : List ℤ → List ℕ
-pcm l = (40 ∷ 112 ∷ 99 ∷ 109 ∷ 32 ∷ []) ++ (words 80 l ++ (41 ∷ 10 ∷ []))
+pcm l = ascii "(pcm " ++ words 80 l ++ ascii ")\n"
 
 -- the decimal digits of n, the highest first (48 is `0`): below ten n is one digit, else they are the digits of n / 10 and then n % 10;
 -- where there are more than j, the last j
@@ -34,17 +43,25 @@ digits (suc j) n =
 unfoldable pub decimal : ℕ → List ℕ
 decimal n = digits (suc n) n
 
+-- a number behind its label
+unfoldable pub figure : List ℕ → ℕ → List ℕ
+figure label n = label ++ decimal n
+
+-- a call's counts, behind an opening that ends in `(frames `
+unfoldable pub figures : List ℕ → Counts → List ℕ
+figures opening c = figure opening (c .frames) ++ figure (ascii ") (lost ") (c .lost) ++ ascii "))\n"
+
 -- `(total (frames N) (lost M))`
-unfoldable pub total : ℕ → ℕ → List ℕ
-total frames lost =
-    (40 ∷ 116 ∷ 111 ∷ 116 ∷ 97 ∷ 108 ∷ 32 ∷ 40 ∷ 102 ∷ 114 ∷ 97 ∷ 109 ∷ 101 ∷ 115 ∷ 32 ∷ [])
-    ++ (decimal frames ++ ((41 ∷ 32 ∷ 40 ∷ 108 ∷ 111 ∷ 115 ∷ 116 ∷ 32 ∷ []) ++ (decimal lost ++ (41 ∷ 41 ∷ 10 ∷ []))))
+unfoldable pub total : Counts → List ℕ
+total c = figures (ascii "(total (frames ") c
+
+-- `(saved (frames N) (lost M))`, the product's own, of a job that stopped before the end of its call
+unfoldable pub saved : Counts → List ℕ
+saved c = figures (ascii "(saved (frames ") c
 
 -- `(refused (code C) (line L))`
 unfoldable pub refused : ℕ → ℕ → List ℕ
-refused code line =
-    (40 ∷ 114 ∷ 101 ∷ 102 ∷ 117 ∷ 115 ∷ 101 ∷ 100 ∷ 32 ∷ 40 ∷ 99 ∷ 111 ∷ 100 ∷ 101 ∷ 32 ∷ [])
-    ++ (decimal code ++ ((41 ∷ 32 ∷ 40 ∷ 108 ∷ 105 ∷ 110 ∷ 101 ∷ 32 ∷ []) ++ (decimal line ++ (41 ∷ 41 ∷ 10 ∷ []))))
+refused code line = figure (ascii "(refused (code ") code ++ figure (ascii ") (line ") line ++ ascii "))\n"
 
 -- a text written over the front of lent bytes
 unfoldable pub over : List ℕ → List ℕ → List ℕ

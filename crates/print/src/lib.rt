@@ -1,69 +1,64 @@
 // The printed forms of the decoding program, each ended by a line feed, written into lent memory.
 ghost use mathlib.Core.Path.{_≡_};
-ghost use mathlib.Core.List.{_++_};
-ghost use Prim.Native.Nat.{_+_, _<_, _≤_};
-ghost use lib.ListN.{length, take};
-ghost use lib.Seq.{paste};
-ghost use Rattle.laws.specs.Digits.{digit};
-ghost use Rattle.print.specs.Print.{word, words, pcm, decimal, total, refused, over};
+ghost use Prim.Native.Nat.{_+_, _≤_};
+ghost use lib.ListN.{length};
+ghost use Rattle.text.specs.Text.{Put};
+ghost use Rattle.print.specs.Print.{frame-room, form-room, word, words, pcm, decimal, figure, figures, total, saved, refused, over};
+use count::Counts;
 
-// The digit of a value below 16.
-fn digit(v: u16) -> u8
-    requires { ⌜ v < 16 ⌝ }
-    ensures { λ r. ⌜ r ≡ digit v ⌝ }
+// The longest that is printed for a frame, and the longest last form.
+pub const FRAME_ROOM: usize = 327;
+
+pub const FORM_ROOM: usize = 46;
+
+// Each of the private functions below writes at place `from`, and answers the place behind what it wrote.
+
+fn put(part: &[u8], from: usize, out: &mut [u8]) -> usize
+    requires { ⌜ from + length (now part) ≤ length (now out) ⌝ }
+    ensures { λ r. ⌜ Put (now (part .entry)) from (now (out .entry)) r (now (out .exit)) ⌝ }
 {
-    if v < 10 { 48 + v as u8 } else { 87 + v as u8 }
+    from + bytes::copy(part, &mut out[from..])
 }
 
-// Writes four digits at place `from`.
-fn word(x: u16, from: usize, out: &mut [u8])
+// Four digits.
+fn word(x: u16, from: usize, out: &mut [u8]) -> usize
     requires { ⌜ from + 4 ≤ length (now out) ⌝ }
-    ensures { λ r. ⌜ take (from + 4) (now (out .exit)) ≡ take from (now (out .entry)) ++ word x ⌝ }
+    ensures { λ r. ⌜ Put (word x) from (now (out .entry)) r (now (out .exit)) ⌝ }
 {
-    out[from] = digit(x / 4096);
-    out[from + 1] = digit(x / 256 % 16);
-    out[from + 2] = digit(x / 16 % 16);
-    out[from + 3] = digit(x % 16);
+    out[from] = text::digit(x / 4096);
+    out[from + 1] = text::digit(x / 256);
+    out[from + 2] = text::digit(x / 16);
+    out[from + 3] = text::digit(x);
+    from + 4
 }
 
-// Writes four digits for each sample, behind the first five bytes.
-fn words(samples: &[i16; 80], out: &mut [u8; 327])
-    ensures { λ r. ⌜ take 325 (now (out .exit)) ≡ take 5 (now (out .entry)) ++ words 80 (now (samples .entry)) ⌝ }
+// Four digits for each sample.
+fn words(samples: &[i16; 80], from: usize, out: &mut [u8]) -> usize
+    requires { ⌜ from + 320 ≤ length (now out) ⌝ }
+    ensures { λ r. ⌜ Put (words 80 (now (samples .entry))) from (now (out .entry)) r (now (out .exit)) ⌝ }
 {
+    let mut at = from;
     let mut i = 0;
     while i < 80 {
-        word(basic_op::low16(samples[i]), 5 + 4 * i, out);
+        at = word(basic_op::low16(samples[i]), at, out);
         i += 1;
     }
+    at
 }
 
-// Writes `part` at place `from`.
-fn put(part: &[u8], from: usize, out: &mut [u8])
-    requires { ⌜ from + length (now part) ≤ length (now out) ⌝ }
-    ensures { λ r. ⌜ now (out .exit) ≡ paste (now (out .entry)) from (now (part .entry)) (length (now (part .entry))) ⌝ }
+// `(pcm H)`: four digits for each sample, two's complement, high digit first. Answers its length; the bytes behind it are as they were.
+pub fn pcm(samples: &[i16; 80], out: &mut [u8; FRAME_ROOM]) -> usize
+    ensures { λ r. ⌜ (r ≤ frame-room) × ((r ≡ length (pcm (now (samples .entry)))) × (now (out .exit) ≡ over (pcm (now (samples .entry))) (now (out .entry)))) ⌝ }
 {
-    let mut i = 0;
-    while i < part.len() {
-        out[from + i] = part[i];
-        i += 1;
-    }
+    let a = put(b"(pcm ", 0, out);
+    let b = words(samples, a, out);
+    put(b")\n", b, out)
 }
 
-// `(pcm H)`: four digits for each sample, two's complement, high digit first.
-pub fn pcm(samples: &[i16; 80], out: &mut [u8; 327])
-    ensures { λ r. ⌜ now (out .exit) ≡ pcm (now (samples .entry)) ⌝ }
-{
-    put(b"(pcm ", 0, out);
-    words(samples, out);
-    put(b")\n", 325, out);
-}
-
-// Writes the decimal digits of a number at place `from`, and answers the place behind them.
+// The decimal digits of a number.
 fn number(n: u32, from: usize, out: &mut [u8]) -> usize
     requires { ⌜ from + 10 ≤ length (now out) ⌝ }
-    ensures { λ r. ⌜ r ≤ from + 10 ⌝ }
-    ensures { λ r. ⌜ r ≡ from + length (decimal n) ⌝ }
-    ensures { λ r. ⌜ now (out .exit) ≡ paste (now (out .entry)) from (decimal n) (length (decimal n)) ⌝ }
+    ensures { λ r. ⌜ (r ≤ from + 10) × Put (decimal n) from (now (out .entry)) r (now (out .exit)) ⌝ }
 {
     if n < 10 {
         out[from] = 48 + n as u8;
@@ -74,26 +69,43 @@ fn number(n: u32, from: usize, out: &mut [u8]) -> usize
     last + 1
 }
 
-// `(total (frames N) (lost M))`; answers its length, at most 46; the bytes behind it are as they were.
-pub fn total(frames: u32, lost: u32, out: &mut [u8; 46]) -> usize
-    ensures { λ r. ⌜ (r ≤ 46) × ((r ≡ length (total frames lost)) × (now (out .exit) ≡ over (total frames lost) (now (out .entry)))) ⌝ }
+// A number behind its label.
+fn figure(label: &[u8], n: u32, from: usize, out: &mut [u8]) -> usize
+    requires { ⌜ from + length (now label) + 10 ≤ length (now out) ⌝ }
+    ensures { λ r. ⌜ (r ≤ from + length (now (label .entry)) + 10) × Put (figure (now (label .entry)) n) from (now (out .entry)) r (now (out .exit)) ⌝ }
 {
-    put(b"(total (frames ", 0, out);
-    let a = number(frames, 15, out);
-    put(b") (lost ", a, out);
-    let b = number(lost, a + 8, out);
-    put(b"))\n", b, out);
-    b + 3
+    let at = put(label, from, out);
+    number(n, at, out)
 }
 
-// `(refused (code C) (line L))`; answers its length, at most 46; the bytes behind it are as they were.
-pub fn refused(code: u32, line: u32, out: &mut [u8; 46]) -> usize
-    ensures { λ r. ⌜ (r ≤ 46) × ((r ≡ length (refused code line)) × (now (out .exit) ≡ over (refused code line) (now (out .entry)))) ⌝ }
+// A call's counts, behind an opening that ends in `(frames `.
+fn figures(opening: &[u8; 15], c: Counts, out: &mut [u8; FORM_ROOM]) -> usize
+    ensures { λ r. ⌜ (r ≤ form-room) × Put (figures (now (opening .entry)) c) 0 (now (out .entry)) r (now (out .exit)) ⌝ }
 {
-    put(b"(refused (code ", 0, out);
-    let a = number(code, 15, out);
-    put(b") (line ", a, out);
-    let b = number(line, a + 8, out);
-    put(b"))\n", b, out);
-    b + 3
+    let a = figure(opening, c.frames, 0, out);
+    let b = figure(b") (lost ", c.lost, a, out);
+    put(b"))\n", b, out)
+}
+
+// `(total (frames N) (lost M))`; answers its length; the bytes behind it are as they were.
+pub fn total(c: Counts, out: &mut [u8; FORM_ROOM]) -> usize
+    ensures { λ r. ⌜ (r ≤ form-room) × ((r ≡ length (total c)) × (now (out .exit) ≡ over (total c) (now (out .entry)))) ⌝ }
+{
+    figures(b"(total (frames ", c, out)
+}
+
+// `(saved (frames N) (lost M))`, of a job that stopped before the end of its call; answers its length; the bytes behind it are as they were.
+pub fn saved(c: Counts, out: &mut [u8; FORM_ROOM]) -> usize
+    ensures { λ r. ⌜ (r ≤ form-room) × ((r ≡ length (saved c)) × (now (out .exit) ≡ over (saved c) (now (out .entry)))) ⌝ }
+{
+    figures(b"(saved (frames ", c, out)
+}
+
+// `(refused (code C) (line L))`; answers its length; the bytes behind it are as they were.
+pub fn refused(code: u32, line: u32, out: &mut [u8; FORM_ROOM]) -> usize
+    ensures { λ r. ⌜ (r ≤ form-room) × ((r ≡ length (refused code line)) × (now (out .exit) ≡ over (refused code line) (now (out .entry)))) ⌝ }
+{
+    let a = figure(b"(refused (code ", code, 0, out);
+    let b = figure(b") (line ", line, a, out);
+    put(b"))\n", b, out)
 }

@@ -26,7 +26,7 @@ pub fn field(text: &[u8], from: usize, count: usize) -> u32
     let mut v: u32 = 0;
     let mut i = 0;
     while i < count {
-        v = v % 268435456 * 16 + line::value(byte(text, from, i)) as u32;
+        v = v % 268435456 * 16 + text::value(byte(text, from, i)) as u32;
         i += 1;
     }
     v

@@ -1,7 +1,9 @@
 // What is written: forms at their place in OUT, and the state file, written aside and renamed.
 use job::Saved;
+use job::parts;
 use libc::STDERR_FILENO;
 use libc::STDOUT_FILENO;
+use print::FORM_ROOM;
 
 // A line on standard error.
 pub(crate) fn say(name: &[u8], what: &[u8]) {
@@ -12,19 +14,19 @@ pub(crate) fn say(name: &[u8], what: &[u8]) {
 }
 
 // The first n bytes of a form, on standard output.
-pub(crate) fn print(form: &[u8; 46], n: usize) {
+pub(crate) fn print(form: &[u8; FORM_ROOM], n: usize) {
     let view = &form[..];
     if n <= view.len() {
         io::write_all(STDOUT_FILENO, &view[0..n]);
     }
 }
 
-// Writes forms behind those of so many frames. False, with a message, where not all could be written.
-pub(crate) fn put(out: i32, forms: &[u8], frames: u32, name: &[u8]) -> bool {
+// Writes forms behind the first `at` bytes of OUT. False, with a message, where not all could be written.
+pub(crate) fn put(out: i32, forms: &[u8], at: u64, name: &[u8]) -> bool {
     if forms.len() == 0 {
         return true;
     }
-    let answer = libc::pwrite(out, forms, job::parts::offset(frames));
+    let answer = libc::pwrite(out, forms, parts::position(at));
     if answer < 0 {
         os::fail(name);
         return false;
@@ -45,10 +47,9 @@ pub(crate) fn sync(fd: i32, name: &[u8]) -> bool {
     true
 }
 
-// Cuts OUT so many bytes behind the forms of so many frames, and waits until it is on the disk.
-pub(crate) fn cut(out: i32, frames: u32, more: usize, name: &[u8]) -> bool {
-    let end = std::num::wrapping_add_u64(327 * (frames as u64), more as u64);
-    if libc::ftruncate(out, job::parts::position(end)) < 0 {
+// Cuts OUT behind its first `at` bytes, and waits until it is on the disk.
+pub(crate) fn cut(out: i32, at: u64, name: &[u8]) -> bool {
+    if libc::ftruncate(out, parts::position(at)) < 0 {
         os::fail(name);
         return false;
     }

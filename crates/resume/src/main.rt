@@ -6,12 +6,14 @@ ghost use Prim.Native.Nat.{_<_};
 mod files;
 mod start;
 
-use count::Counted;
 use job::Saved;
+use job::parts::ALL;
 use job::parts::Frames;
 use job::parts::ROOM;
 use libc::STDERR_FILENO;
 use libc::STDOUT_FILENO;
+use line_step::Progress;
+use print::FORM_ROOM;
 
 // The open call and the open OUT.
 struct Fds {
@@ -34,31 +36,32 @@ fn stopped(place: Saved, most: u32) -> Todo {
     }
 }
 
-// Writes a call's last form, the first n bytes, to OUT and to standard output. What stood behind it in OUT is cut off.
-fn put_last(form: &[u8; 46], n: usize, frames: u32, out: i32, name: &[u8]) {
+// Writes a call's last form, the first n bytes, to OUT behind its first `at` and to standard output. What stood behind it in OUT is cut off.
+fn put_last(form: &[u8; FORM_ROOM], n: usize, at: u64, out: i32, name: &[u8]) {
     let view = &form[..];
     if n <= view.len() {
-        if !files::put(out, &view[0..n], frames, name) {
+        if !files::put(out, &view[0..n], at, name) {
             return;
         }
-        if files::cut(out, frames, n, name) {
+        let end = std::num::wrapping_add_u64(at, n as u64);
+        if files::cut(out, end, name) {
             io::write_all(STDOUT_FILENO, &view[0..n]);
         }
     }
 }
 
-fn finish(job: Counted, held: &[u8], out: i32, name: &[u8]) {
-    let mut form = [0u8; 46];
+// The last form of a call, behind the first `at` bytes of OUT.
+fn finish(job: Progress, held: &[u8], at: u64, out: i32, name: &[u8]) {
+    let mut form = [0u8; FORM_ROOM];
     let n = call::finish(job, held, &mut form);
-    put_last(&form, n, job.counts.frames, out, name);
+    put_last(&form, n, at, out, name);
 }
 
 // No whole line stands at the place: the call ends there, or a line is too long. Answers whether the text goes on behind these bytes.
 fn end(p: Saved, held: &[u8], fds: Fds, name: &[u8]) -> bool {
-    let counts = p.counts;
-    let code = call::overlong(0, held);
-    if code != 0 {
-        finish(Counted { code, counts }, held, fds.out, name);
+    let job = call::overlong(job::parts::progress_of(p, 0), held);
+    if job.code != 0 {
+        finish(job, held, p.written, fds.out, name);
         return false;
     }
     let mut next = [0u8; 1];
@@ -71,7 +74,7 @@ fn end(p: Saved, held: &[u8], fds: Fds, name: &[u8]) -> bool {
     if got > 0 {
         return true;
     }
-    finish(Counted { code: 0, counts }, held, fds.out, name);
+    finish(job, held, p.written, fds.out, name);
     false
 }
 
@@ -105,22 +108,20 @@ fn step(
     let most = r.most;
     let part = job::parts::part(t, b, place, most, input, forms);
     let written = part.written;
-    if !files::put(fds.out, &forms[0..written], place.counts.frames, name) {
+    if !files::put(fds.out, &forms[0..written], place.written, name) {
         return stopped(place, most);
     }
-    let job = part.job;
-    if job.code != 0 {
-        finish(job, b"", fds.out, name);
+    let next = part.place;
+    if part.code != 0 {
+        let job = job::parts::progress_of(next, part.code);
+        finish(job, b"", next.written, fds.out, name);
         return stopped(place, most);
     }
     if written == 0 {
         let more = end(place, input, fds, name);
         return Todo { place, most, more };
     }
-    let counts = job.counts;
-    let at = part.at;
-    let tables = place.tables;
-    keep(b, Saved { counts, at, tables }, part.left, fds, state, name)
+    keep(b, next, part.left, fds, state, name)
 }
 
 // One part: the text from the place on is read, and goes to `step`.
@@ -197,12 +198,12 @@ fn first(most: u32) -> u32 {
 
 // Says where the job stopped. OUT then ends with the last frame that is done.
 fn stop(p: Saved, out: i32, name: &[u8]) {
-    let counts = p.counts;
-    if !files::cut(out, counts.frames, 0, name) {
+    if !files::cut(out, p.written, name) {
         return;
     }
-    let mut form = [0u8; 46];
-    let n = job::parts::saved(counts, &mut form);
+    let counts = p.counts;
+    let mut form = [0u8; FORM_ROOM];
+    let n = print::saved(counts, &mut form);
     files::print(&form, n);
 }
 
@@ -219,7 +220,7 @@ fn run(text: &[u8], state: &[u8], name: &[u8], most: u32) {
         return;
     }
     let place = s.place;
-    let call = start::open_call(text, place.at);
+    let call = start::open_call(text, place);
     if call < 0 {
         return;
     }
@@ -228,7 +229,7 @@ fn run(text: &[u8], state: &[u8], name: &[u8], most: u32) {
             return;
         }
     }
-    let out = start::open_out(name, place.counts.frames);
+    let out = start::open_out(name, place.written);
     if out < 0 {
         return;
     }
@@ -250,12 +251,12 @@ fn usage() {
     io::write_all(STDERR_FILENO, b"usage: resume CALL STATE OUT [FRAMES]\n");
 }
 
-// The fourth argument: at most so many frames. Where there is none, one more than a call can have, so that the end is always reached.
+// The fourth argument: at most so many frames. Where there is none, more than a call can have, so that the end is always reached.
 fn frames_asked() -> Frames {
     if os::arg_count() < 5 {
         return Frames {
             good: true,
-            most: 360001,
+            most: ALL,
         };
     }
     let mut text = [0u8; 64];

@@ -1,5 +1,5 @@
--- The last form of a call (01, "The call text and the program"): the total of all its lines, or a refusal with 9 or 10 whose L is the number of line feeds before the refused line,
--- and 1. So `line-number`, which goes by the frames, is the number of the line. Assumes nothing.
+-- The last form of a call (01, "The call text and the program"): the total, whose frames are its lines, or a refusal with 9 or 10 whose L is the number of line feeds before the refused
+-- line, and 1. Assumes nothing.
 use mathlib.Core.Path.{_≡_, refl, ap, sym, _∙_}
 use mathlib.Core.Bool.{Bool, true, false, cond}
 use mathlib.Core.List.{List, [], _∷_, _++_, append-assoc, append-nil}
@@ -17,10 +17,11 @@ use Rattle.tables.specs.Laws.{check-few}
 use Rattle.state.specs.State.{state-check}
 use Rattle.state.specs.Laws.{fresh-accepted, check-of-accepted}
 use Rattle.words.specs.Words.{words}
-use Rattle.line_step.specs.Step.{Job, Step, line-step}
-use Rattle.call.specs.Call.{line-number, last-form, printed, fresh-job, file-check, output}
+use Rattle.line_step.specs.declared.Progress.{Progress}
+use Rattle.line_step.specs.Step.{Job, Step, with-code, line-step}
+use Rattle.call.specs.Call.{start, last-form, printed, fresh-job, file-check, output}
 use Rattle.call.specs.Chunk.{to-feed}
-use Rattle.whole_call.specs.Counting.{counting}
+use Rattle.whole_call.specs.Counting.{counting, next-line, Lined, lined-start, lined-more}
 use Rattle.whole_call.specs.Codes.{refuses, refused-with, line-accepted}
 use Rattle.whole_call.specs.Whole.{feedless-rest, feedless-more, no-feed, printed-ended}
 
@@ -37,7 +38,7 @@ ended p (b ∷ l) = ended (eqb b 10) l
 -- how all that is printed of a text behind n lines ends; what stands before the last form is `printed`'s to say
 pub data Ending (n : ℕ) (text out : List ℕ) : Type 0 where
   -- of whole lines: the total, with as many frames as there are lines
-  with-total : (samples : List ℕ) (lost : ℕ) → ended true text ≡ true → out ≡ samples ++ total (n + feeds text) lost → Ending n text out
+  with-total : (samples : List ℕ) (c : Counts) → ended true text ≡ true → c .frames ≡ n + feeds text → out ≡ samples ++ total c → Ending n text out
   -- or the refusal, with 9 or 10, of the line that stands behind some whole lines
   with-refusal : (samples before rest : List ℕ) (code : ℕ) → refuses code ≡ true → text ≡ before ++ rest → ended true before ≡ true → 0 < length rest
       → out ≡ samples ++ refused code (n + feeds before + 1) → Ending n text out
@@ -61,9 +62,8 @@ unfolding ended
 nothing-ended = refl
 
 line-more : (n m : ℕ) (held text v out : List ℕ) (b : ℕ) → m ≡ n + 1 → to-feed held ≡ length held → eqb b 10 ≡ true → Ending m text out → Ending n (held ++ (b ∷ text)) (v ++ out)
-line-more n m held text v out b hm h e (with-total samples lost w f) =
-    let k : m + feeds text ≡ n + feeds (held ++ (b ∷ text)) = omega (arith, feeds-line held text b h e) in
-    with-total (v ++ samples) lost (ended-line true held text b ∙ rw e w) (rw (f, k) (sym (append-assoc v samples _)))
+line-more n m held text v out b hm h e (with-total samples c w k f) =
+    with-total (v ++ samples) c (ended-line true held text b ∙ rw e w) (omega (arith, feeds-line held text b h e)) (rw f (sym (append-assoc v samples _)))
 line-more n m held text v out b hm h e (with-refusal samples before rest code z g w l f) =
     let k : m + feeds before ≡ n + feeds (held ++ (b ∷ before)) = omega (arith, feeds-line held before b h e) in
     with-refusal (v ++ samples) (held ++ (b ∷ before)) rest code z (rw g (sym (append-assoc held (b ∷ before) rest))) (ended-line true held before b ∙ rw e w) l
@@ -71,44 +71,50 @@ line-more n m held text v out b hm h e (with-refusal samples before rest code z 
 
 -- ---- the last form
 
-refused-form : (c : Counts) (code : ℕ) (held : List ℕ) → c .frames ≤ 360000 → (code ≡ 0 → ⊥) → last-form c code held ≡ refused code (c .frames + feeds [] + 1)
-unfolding last-form line-number feeds
-refused-form c code held h z = rw (ne-eqb code 0 z) (ap (λ (n : ℕ). refused code n) (omega arith))
+refused-form : (p : Progress) (held : List ℕ) → Lined p → (p .code ≡ 0 → ⊥) → last-form p held ≡ refused (p .code) (p .lines + feeds [] + 1)
+unfolding last-form feeds
+refused-form p held l z = rw (ne-eqb (p .code) 0 z, next-line (p .lines) (omega (arith, l .few))) (ap (λ (n : ℕ). refused (p .code) n) (omega arith))
 
-open-form : (c : Counts) (code : ℕ) (held : List ℕ) → c .frames ≤ 360000 → code ≡ 0 → Ending (c .frames) held (last-form c code held)
-unfolding last-form line-number feeds ended refuses
-open-form c code [] h z = with-total [] (c .lost) refl (rw (eq-eqb code 0 z) (ap (λ (n : ℕ). total n (c .lost)) (omega arith)))
-open-form c code (b ∷ held) h z =
+-- a line that is refused leaves the lines as they were
+refused-as-was : (p q : Progress) → Lined p → (q .code ≡ 0 → ⊥) → q ≡ with-code p (q .code) → last-form q [] ≡ refused (q .code) (p .lines + feeds [] + 1)
+refused-as-was p q l z e =
+    let n : q .lines ≡ p .lines = ap (λ (x : Progress). x .lines) e in
+    let c : q .counts ≡ p .counts = ap (λ (x : Progress). x .counts) e in
+    refused-form q [] (record { frames = rw (c, n) (l .frames); few = rw n (l .few) }) z ∙ rw n
+
+open-form : (p : Progress) (held : List ℕ) → Lined p → p .code ≡ 0 → Ending (p .lines) held (last-form p held)
+unfolding last-form feeds ended refuses
+open-form p [] l z = with-total [] (p .counts) refl (omega (arith, l .frames)) (rw (eq-eqb (p .code) 0 z))
+open-form p (b ∷ held) l z =
     with-refusal [] [] (b ∷ held) 9 refl refl refl (omega arith)
-    (rw (eq-eqb code 0 z, ne-eqb (length (b ∷ held)) 0 (λ e. omega arith)) (ap (λ (n : ℕ). refused 9 n) (omega arith)))
+    (rw (eq-eqb (p .code) 0 z, ne-eqb (length (b ∷ held)) 0 (λ e. omega arith), next-line (p .lines) (omega (arith, l .few))) (ap (λ (n : ℕ). refused 9 n) (omega arith)))
 
-pub ending : (t : List ℤ) (job : Job) (held text : List ℕ) → table-check t ≡ 0 → state-check (job .block) ≡ 0 → job .code ≡ 0 → job .counts .frames ≤ 360000 → to-feed held ≡ length held
-    → Ending (job .counts .frames) (held ++ text) (printed t job held text)
+pub ending : (t : List ℤ) (job : Job) (held text : List ℕ) → table-check t ≡ 0 → state-check (job .block) ≡ 0 → job .progress .code ≡ 0 → Lined (job .progress) → to-feed held ≡ length held
+    → Ending (job .progress .lines) (held ++ text) (printed t job held text)
 unfolding printed
-ending t job held [] ht hb z k h = rw (append-nil held) (open-form (job .counts) (job .code) held k z)
+ending t job held [] ht hb z k h = rw (append-nil held) (open-form (job .progress) held k z)
 ending t job held (b ∷ text) ht hb z k h =
-    rw (eq-eqb (job .code) 0 z)
-    (by (eqb b 10) (eqb (s .job .code) 0) refl refl (λ g f. ending t (s .job) [] text ht (line-accepted t job held hb) g f no-feed) (λ g. ending t job (held ++ (b ∷ [])) text ht hb z k (feedless-more held b h g)))
+    rw (eq-eqb (job .progress .code) 0 z)
+    (by (eqb b 10) (eqb (s .job .progress .code) 0) refl refl (λ g f. ending t (s .job) [] text ht (line-accepted t job held hb) g f no-feed) (λ g. ending t job (held ++ (b ∷ [])) text ht hb z k (feedless-more held b h g)))
   where
     s : Step
     s = line-step t job held
 
     n : ℕ
-    n = job .counts .frames
+    n = job .progress .lines
 
-    by : (p q : Bool) → eqb b 10 ≡ p → eqb (s .job .code) 0 ≡ q
-        → (s .job .code ≡ 0 → s .job .counts .frames ≤ 360000 → Ending (s .job .counts .frames) text (printed t (s .job) [] text))
+    by : (p q : Bool) → eqb b 10 ≡ p → eqb (s .job .progress .code) 0 ≡ q
+        → (s .job .progress .code ≡ 0 → Lined (s .job .progress) → Ending (s .job .progress .lines) text (printed t (s .job) [] text))
         → (eqb b 10 ≡ false → Ending n ((held ++ (b ∷ [])) ++ text) (printed t job (held ++ (b ∷ [])) text))
         → Ending n (held ++ (b ∷ text)) (cond p (s .text ++ printed t (s .job) [] text) (printed t job (held ++ (b ∷ [])) text))
     by true true e g f r =
-        let c : s .job .code ≡ 0 = eqb-true (s .job .code) 0 g in
-        let m = counting t job held .more c in
-        line-more n (s .job .counts .frames) held text (s .text) _ b (m .0) h e (f c (omega arith))
+        let c : s .job .progress .code ≡ 0 = eqb-true (s .job .progress .code) 0 g in
+        let m = lined-more (job .progress) (s .job .progress) k (counting t job held .more c) in
+        line-more n (s .job .progress .lines) held text (s .text) _ b (m .0) h e (f c (m .1))
     by true false e g f r =
-        let c : s .job .code ≡ 0 → ⊥ = eqb-false (s .job .code) 0 g in
-        let w : s .job .counts ≡ job .counts = counting t job held .as-was c in
-        with-refusal (s .text) [] (held ++ (b ∷ text)) (s .job .code) (refused-with t job held ht hb c) refl nothing-ended (rw length-append (omega arith))
-        (rw (printed-ended t (s .job) [] text c, w, refused-form (job .counts) (s .job .code) [] k c))
+        let c : s .job .progress .code ≡ 0 → ⊥ = eqb-false (s .job .progress .code) 0 g in
+        with-refusal (s .text) [] (held ++ (b ∷ text)) (s .job .progress .code) (refused-with t job held ht hb c) refl nothing-ended (rw length-append (omega arith))
+        (rw (printed-ended t (s .job) [] text c, refused-as-was (job .progress) (s .job .progress) k c (counting t job held .as-was c)))
     by false q e g f r = rw (← append-snoc held b text) (r e)
 
 -- ---- the program
@@ -141,9 +147,9 @@ pub record Ends (file text : List ℕ) : Type 0 where
   pub no-tables : (file-check file ≡ 0 → ⊥) → (output file text ≡ refused (file-check file) 0) × (file-check file ≤ 2)
 
 pub ends : (file text : List ℕ) → Ends file text
-unfolding output fresh-job
+unfolding output fresh-job start
 ends file text =
     record {
-      with-tables = λ e. rw (eq-eqb (file-check file) 0 e) (ending (words file) (fresh-job (words file)) [] text (checked file e) (fresh-checked file e) refl (omega arith) no-feed);
+      with-tables = λ e. rw (eq-eqb (file-check file) 0 e) (ending (words file) (fresh-job (words file)) [] text (checked file e) (fresh-checked file e) refl lined-start no-feed);
       no-tables = λ n. (rw (ne-eqb (file-check file) 0 n), file-check-few file);
     }

@@ -1,4 +1,4 @@
--- `whole`: however a text is cut into reads, and whatever room the output has, the parts written make up `printed` of the whole text.
+-- `whole`: however a text is cut into reads, however many lines are taken at a time, and whatever room the output has, the parts written make up `printed` of the whole text.
 -- `program`: with the tables they are `output` of the table file and the text. Assumes nothing.
 use mathlib.Core.Path.{_≡_, refl, ap, sym, _∙_}
 use mathlib.Core.Bool.{Bool, true, false, cond, _&&_}
@@ -11,24 +11,24 @@ use lib.IntN.{ℤ}
 use lib.ListN.{length, take, drop, replicate, length-append, take-append-drop}
 use lib.Seq.{append-snoc, take-append-seam, drop-append-add}
 use borrow.Author.Tests.{eq-eqb, ne-eqb, eqb-true, eqb-false, ltb-true}
-use Rattle.count.specs.declared.Counted.{Counted}
-use Rattle.line.specs.Line as Line
-use Rattle.line.specs.Laws.{other-length}
+use Rattle.line.specs.Line.{longest}
+use Rattle.line.specs.Laws.{refused-line, frame-length}
 use Rattle.print.specs.Print.{refused, over}
 use Rattle.state.specs.State as State
 use Rattle.tables.specs.Layout.{table-check}
 use Rattle.words.specs.Words.{words}
-use Rattle.line_step.specs.Step.{Job, Step, stop, line-step, kept}
-use Rattle.line_step.specs.Laws.{not-line}
-use Rattle.call.specs.Call.{line-number, last-form, printed, fresh-job, file-check, output}
+use Rattle.line_step.specs.Step.{Job, Step, kept, with-code, stop, line-step}
+use Rattle.line_step.specs.Laws.{by-line}
+use Rattle.call.specs.Call.{line-number, last-form, printed, start, fresh-job, file-check, output}
 use Rattle.call.specs.Chunk.{Part, none, behind, goes-on, part, answer, given, lines, to-feed, overlong, begun, with-state, begin}
+use Rattle.call.specs.Laws.{going}
 
 -- ---- what is done with a call, in any order, and what is then held
 
--- bytes are read, behind those held; lines are taken out of these, with some room for what they print; a line that is overlong is refused
+-- bytes are read, behind those held; lines are taken out of these, at most so many, with some room for what they print; a line that is overlong is refused
 pub data Act : Type 0 where
   read : List ℕ → Act
-  take-lines : ℕ → Act
+  take-lines : ℕ → ℕ → Act
   test-overlong : Act
 
 -- what is kept between lines, the bytes that are not used yet, and all that was written
@@ -37,16 +37,12 @@ pub record Held : Type 0 where
   pub bytes : List ℕ
   pub written : List ℕ
 
--- the code alone is another
-unfoldable pub with-code : Job → ℕ → Job
-with-code job code = record { block = job .block; counts = job .counts; code = code }
-
 unfoldable pub act : List ℤ → Act → Held → Held
 act t (read l) h = record { job = h .job; bytes = h .bytes ++ l; written = h .written }
-act t (take-lines room) h =
-    let p : Part = part t (h .job) room [] (h .bytes) in
+act t (take-lines most room) h =
+    let p : Part = part t (h .job) most room [] (h .bytes) in
     record { job = p .job; bytes = p .unused; written = h .written ++ p .text }
-act t test-overlong h = record { job = with-code (h .job) (overlong (h .bytes) (h .job .code)); bytes = h .bytes; written = h .written }
+act t test-overlong h = record { job = kept (h .job .block) (overlong (h .bytes) (h .job .progress)); bytes = h .bytes; written = h .written }
 
 unfoldable pub acts : List ℤ → List Act → Held → Held
 acts t [] h = h
@@ -56,22 +52,22 @@ acts t (a ∷ l) h = acts t l (act t a h)
 unfoldable pub text-of : List Act → List ℕ
 text-of [] = []
 text-of (read l ∷ r) = l ++ text-of r
-text-of (take-lines n ∷ r) = text-of r
+text-of (take-lines most room ∷ r) = text-of r
 text-of (test-overlong ∷ r) = text-of r
 
 abbrev pub last-of : Job → List ℕ → List ℕ
-last-of job held = last-form (job .counts) (job .code) held
+last-of job held = last-form (job .progress) held
 
 -- ---- a call that has ended, and bytes held without a line feed
 
-last-ended : (job : Job) (a b : List ℕ) → (job .code ≡ 0 → ⊥) → last-of job a ≡ last-of job b
+last-ended : (job : Job) (a b : List ℕ) → (job .progress .code ≡ 0 → ⊥) → last-of job a ≡ last-of job b
 unfolding last-form
-last-ended job a b h = rw (ne-eqb (job .code) 0 h)
+last-ended job a b h = rw (ne-eqb (job .progress .code) 0 h)
 
-pub printed-ended : (t : List ℤ) (job : Job) (held text : List ℕ) → (job .code ≡ 0 → ⊥) → printed t job held text ≡ last-of job held
+pub printed-ended : (t : List ℤ) (job : Job) (held text : List ℕ) → (job .progress .code ≡ 0 → ⊥) → printed t job held text ≡ last-of job held
 unfolding printed
 printed-ended t job held [] h = refl
-printed-ended t job held (b ∷ text) h = rw (ne-eqb (job .code) 0 h)
+printed-ended t job held (b ∷ text) h = rw (ne-eqb (job .progress .code) 0 h)
 
 -- a line's bytes without its line feed
 pub feedless-rest : (b : ℕ) (l : List ℕ) → to-feed (b ∷ l) ≡ length (b ∷ l) → (eqb b 10 ≡ false) × (to-feed l ≡ length l)
@@ -97,43 +93,38 @@ no-feed = refl
 pub again : (t : List ℤ) (job : Job) (a held text : List ℕ) → to-feed held ≡ length held → printed t job (a ++ held) text ≡ printed t job a (held ++ text)
 unfolding printed
 again t job a [] text h = rw append-nil
-again t job a (b ∷ held) text h = by (eqb (job .code) 0) refl (again t job (a ++ (b ∷ [])) held text (feedless-rest b held h .1))
+again t job a (b ∷ held) text h = by (eqb (job .progress .code) 0) refl (again t job (a ++ (b ∷ [])) held text (feedless-rest b held h .1))
   where
-    by : (p : Bool) → eqb (job .code) 0 ≡ p → printed t job ((a ++ (b ∷ [])) ++ held) text ≡ printed t job (a ++ (b ∷ [])) (held ++ text)
+    by : (p : Bool) → eqb (job .progress .code) 0 ≡ p → printed t job ((a ++ (b ∷ [])) ++ held) text ≡ printed t job (a ++ (b ∷ [])) (held ++ text)
         → printed t job (a ++ (b ∷ held)) text ≡ printed t job a (b ∷ (held ++ text))
     by true e f = rw (e, feedless-rest b held h .0, ← append-snoc a b held) f
     by false e f =
-        let n : job .code ≡ 0 → ⊥ = eqb-false (job .code) 0 e in
+        let n : job .progress .code ≡ 0 → ⊥ = eqb-false (job .progress .code) 0 e in
         printed-ended t job (a ++ (b ∷ held)) text n ∙ last-ended job (a ++ (b ∷ held)) a n ∙ sym (printed-ended t job a (b ∷ (held ++ text)) n)
 
 -- ---- a part of the text
 
-going-code : (job : Job) (room : ℕ) → goes-on job room ≡ true → eqb (job .code) 0 ≡ true
-unfolding goes-on
-going-code job room = by (eqb (job .code) 0) (leb 327 room)
-  where
-    by : (p q : Bool) → (p && q) ≡ true → p ≡ true
-    by true q e = refl
-    by false q e = e
+going-code : (job : Job) (most room : ℕ) → goes-on (job .progress) most room ≡ true → eqb (job .progress .code) 0 ≡ true
+going-code job most room e = eq-eqb (job .progress .code) 0 (going (job .progress) most room e .0)
 
 -- what a part's lines print, and what is printed of the bytes behind them, is what is printed of the whole
-abbrev Made : List ℤ → Job → ℕ → List ℕ → List ℕ → List ℕ → Type 0
-Made t job room held l rest =
-    printed t job held (l ++ rest) ≡ part t job room held l .text ++ printed t (part t job room held l .job) [] (part t job room held l .unused ++ rest)
+abbrev Made : List ℤ → Job → ℕ → ℕ → List ℕ → List ℕ → List ℕ → Type 0
+Made t job most room held l rest =
+    printed t job held (l ++ rest) ≡ part t job most room held l .text ++ printed t (part t job most room held l .job) [] (part t job most room held l .unused ++ rest)
 
-pub part-made : (t : List ℤ) (job : Job) (room : ℕ) (held l rest : List ℕ) → to-feed held ≡ length held → Made t job room held l rest
+pub part-made : (t : List ℤ) (job : Job) (most room : ℕ) (held l rest : List ℕ) → to-feed held ≡ length held → Made t job most room held l rest
 unfolding part none behind printed
-part-made t job room held [] rest h = again t job [] held rest h
-part-made t job room held (b ∷ l) rest h =
-    by (goes-on job room) (eqb b 10) refl refl (part-made t (s .job) (room - length (s .text)) [] l rest no-feed) (λ e. part-made t job room (held ++ (b ∷ [])) l rest (feedless-more held b h e))
+part-made t job most room held [] rest h = again t job [] held rest h
+part-made t job most room held (b ∷ l) rest h =
+    by (goes-on (job .progress) most room) (eqb b 10) refl refl (part-made t (s .job) (most - 1) (room - length (s .text)) [] l rest no-feed) (λ e. part-made t job most room (held ++ (b ∷ [])) l rest (feedless-more held b h e))
   where
     s : Step
     s = line-step t job held
 
-    by : (p q : Bool) → goes-on job room ≡ p → eqb b 10 ≡ q → Made t (s .job) (room - length (s .text)) [] l rest
-        → (eqb b 10 ≡ false → Made t job room (held ++ (b ∷ [])) l rest) → Made t job room held (b ∷ l) rest
-    by true true e g f k = rw (e, g, going-code job room e) (ap (λ (x : List ℕ). s .text ++ x) f ∙ sym (append-assoc (s .text) _ _))
-    by true false e g f k = rw (e, g, going-code job room e) (k g)
+    by : (p q : Bool) → goes-on (job .progress) most room ≡ p → eqb b 10 ≡ q → Made t (s .job) (most - 1) (room - length (s .text)) [] l rest
+        → (eqb b 10 ≡ false → Made t job most room (held ++ (b ∷ [])) l rest) → Made t job most room held (b ∷ l) rest
+    by true true e g f k = rw (e, g, going-code job most room e) (ap (λ (x : List ℕ). s .text ++ x) f ∙ sym (append-assoc (s .text) _ _))
+    by true false e g f k = rw (e, g, going-code job most room e) (k g)
     by false q e g f k = rw (e, append-assoc held (b ∷ l) rest) (again t job [] held ((b ∷ l) ++ rest) h)
 
 -- the bytes behind a part's lines are the end of the part
@@ -151,78 +142,74 @@ suffix-self l = (omega arith, rw (sub-self (length l)))
 suffix-behind : (a l u : List ℕ) → Suffix u l → Suffix u (a ++ l)
 suffix-behind a l u h = (rw length-append (omega arith), suffix-more a l u (h .0) (h .1))
 
-part-suffix : (t : List ℤ) (job : Job) (room : ℕ) (held l : List ℕ) → Suffix (part t job room held l .unused) (held ++ l)
+part-suffix : (t : List ℤ) (job : Job) (most room : ℕ) (held l : List ℕ) → Suffix (part t job most room held l .unused) (held ++ l)
 unfolding part none behind
-part-suffix t job room held [] = rw append-nil (suffix-self held)
-part-suffix t job room held (b ∷ l) =
-    by (goes-on job room) (eqb b 10) refl refl (part-suffix t (s .job) (room - length (s .text)) [] l) (part-suffix t job room (held ++ (b ∷ [])) l)
+part-suffix t job most room held [] = rw append-nil (suffix-self held)
+part-suffix t job most room held (b ∷ l) =
+    by (goes-on (job .progress) most room) (eqb b 10) refl refl (part-suffix t (s .job) (most - 1) (room - length (s .text)) [] l) (part-suffix t job most room (held ++ (b ∷ [])) l)
   where
     s : Step
     s = line-step t job held
 
-    by : (p q : Bool) → goes-on job room ≡ p → eqb b 10 ≡ q → Suffix (part t (s .job) (room - length (s .text)) [] l .unused) l
-        → Suffix (part t job room (held ++ (b ∷ [])) l .unused) ((held ++ (b ∷ [])) ++ l) → Suffix (part t job room held (b ∷ l) .unused) (held ++ (b ∷ l))
+    by : (p q : Bool) → goes-on (job .progress) most room ≡ p → eqb b 10 ≡ q → Suffix (part t (s .job) (most - 1) (room - length (s .text)) [] l .unused) l
+        → Suffix (part t job most room (held ++ (b ∷ [])) l .unused) ((held ++ (b ∷ [])) ++ l) → Suffix (part t job most room held (b ∷ l) .unused) (held ++ (b ∷ l))
     by true true e g f k = rw (e, g, ← append-snoc held b l) (suffix-behind (held ++ (b ∷ [])) l _ f)
     by true false e g f k = rw (e, g, ← append-snoc held b l) k
     by false q e g f k = rw e (suffix-self (held ++ (b ∷ l)))
 
 -- what `lines` promises of its answer and the lent output, in terms of the part
-lines-are : (t : List ℤ) (job : Job) (input out : List ℕ) {next : Job} {used written : ℕ} {left : List ℕ} → answer next used written left ≡ lines t job input out
-    → (next ≡ part t job (length out) [] input .job) × ((drop used input ≡ part t job (length out) [] input .unused) × (take written left ≡ part t job (length out) [] input .text))
+lines-are : (t : List ℤ) (job : Job) (most : ℕ) (input out : List ℕ) {next : Job} {used written : ℕ} {left : List ℕ} → answer next used written left ≡ lines t job most input out
+    → (next ≡ part t job most (length out) [] input .job) × ((drop used input ≡ part t job most (length out) [] input .unused) × (take written left ≡ part t job most (length out) [] input .text))
 unfolding lines given over
-lines-are t job input out {next} {used} {written} {left} e =
-    let p : Part = part t job (length out) [] input in
+lines-are t job most input out {next} {used} {written} {left} e =
+    let p : Part = part t job most (length out) [] input in
     let hn : next ≡ p .job = cc in
     let hu : used ≡ length input - length (p .unused) = cc in
     let hw : written ≡ length (p .text) = cc in
     let hl : left ≡ p .text ++ drop (length (p .text)) out = cc in
-    (hn, (rw hu (part-suffix t job (length out) [] input .1), rw (hw, hl) (take-append-seam (p .text) (drop (length (p .text)) out))))
+    (hn, (rw hu (part-suffix t job most (length out) [] input .1), rw (hw, hl) (take-append-seam (p .text) (drop (length (p .text)) out))))
 
 -- so reads compose: what it wrote, and what is printed of the bytes that it did not use, is what is printed of all
-pub lines-made : (t : List ℤ) (job : Job) (input out : List ℕ) {next : Job} {used written : ℕ} {left : List ℕ} → answer next used written left ≡ lines t job input out → (rest : List ℕ)
+pub lines-made : (t : List ℤ) (job : Job) (most : ℕ) (input out : List ℕ) {next : Job} {used written : ℕ} {left : List ℕ} → answer next used written left ≡ lines t job most input out → (rest : List ℕ)
     → printed t job [] (input ++ rest) ≡ take written left ++ printed t next [] (drop used input ++ rest)
-lines-made t job input out e rest =
-    let f = lines-are t job input out e in
-    part-made t job (length out) [] input rest no-feed ∙ rw (f .0, f .1 .0, f .1 .1)
+lines-made t job most input out e rest =
+    let f = lines-are t job most input out e in
+    part-made t job most (length out) [] input rest no-feed ∙ rw (f .0, f .1 .0, f .1 .1)
 
 -- and a call of `lines` is the act `take-lines`
-pub lines-act : (t : List ℤ) (h : Held) (out : List ℕ) {next : Job} {used written : ℕ} {left : List ℕ} → answer next used written left ≡ lines t (h .job) (h .bytes) out
-    → act t (take-lines (length out)) h ≡ record { job = next; bytes = drop used (h .bytes); written = h .written ++ take written left }
+pub lines-act : (t : List ℤ) (h : Held) (most : ℕ) (out : List ℕ) {next : Job} {used written : ℕ} {left : List ℕ} → answer next used written left ≡ lines t (h .job) most (h .bytes) out
+    → act t (take-lines most (length out)) h ≡ record { job = next; bytes = drop used (h .bytes); written = h .written ++ take written left }
 unfolding act
-lines-act t h out e =
-    let f = lines-are t (h .job) (h .bytes) out e in
+lines-act t h most out e =
+    let f = lines-are t (h .job) most (h .bytes) out e in
     rw (f .0, f .1 .0, f .1 .1)
 
 -- ---- an overlong line
 
-long-line : (l : List ℕ) → 36 < length l → Line.line l (replicate 10 0) ≡ Line.answer 9 0 (replicate 10 0)
-unfolding Line.line Line.is Line.opening Line.size
-long-line l h =
-    rw (
-      other-length (Line.opening 0) l 10 (λ e. omega arith),
-      other-length (Line.opening 1) l 2 (λ e. omega arith),
-      other-length (Line.opening 2) l 0 (λ e. omega arith),
-      other-length (Line.opening 3) l 0 (λ e. omega arith),
-    )
+long-step : (t : List ℤ) (job : Job) (l : List ℕ) → longest < length l → line-step t job l ≡ stop job 9
+long-step t job l h =
+    by-line (λ (s : Step). s ≡ stop job 9) t job l
+    (λ n bytes e. rw (refused-line l (replicate 10 0) bytes n refl e))
+    (λ kind bytes e. absurd (omega (arith, frame-length l (replicate 10 0) bytes kind e .1)))
 
-long-step : (t : List ℤ) (job : Job) (l : List ℕ) → 36 < length l → line-step t job l ≡ stop job 9
-long-step t job l h = not-line t job l (sym (long-line l h)) (λ e. omega arith)
-
-open-form : (job : Job) (held : List ℕ) → job .code ≡ 0 → 36 < length held → last-of job held ≡ refused 9 (line-number (job .counts))
+open-form : (job : Job) (held : List ℕ) → job .progress .code ≡ 0 → longest < length held → last-of job held ≡ refused 9 (line-number (job .progress))
 unfolding last-form
-open-form job held e h = rw (eq-eqb (job .code) 0 e, ne-eqb (length held) 0 (λ z. omega arith))
+open-form job held e h = rw (eq-eqb (job .progress .code) 0 e, ne-eqb (length held) 0 (λ z. omega arith))
 
-nine-form : (t : List ℤ) (job : Job) (held text : List ℕ) → printed t (with-code job 9) held text ≡ refused 9 (line-number (job .counts))
-unfolding with-code last-form
-nine-form t job held text = printed-ended t (with-code job 9) held text (λ e. omega arith)
+abbrev nine : Job → Job
+nine job = kept (job .block) (with-code (job .progress) 9)
 
-long-held : (t : List ℤ) (job : Job) (held text : List ℕ) → job .code ≡ 0 → 36 < length held → printed t job held text ≡ refused 9 (line-number (job .counts))
-unfolding printed stop with-code
+nine-form : (t : List ℤ) (job : Job) (held text : List ℕ) → printed t (nine job) held text ≡ refused 9 (line-number (job .progress))
+unfolding last-form
+nine-form t job held text = printed-ended t (nine job) held text (λ e. omega arith)
+
+long-held : (t : List ℤ) (job : Job) (held text : List ℕ) → job .progress .code ≡ 0 → longest < length held → printed t job held text ≡ refused 9 (line-number (job .progress))
+unfolding printed stop
 long-held t job held [] e h = open-form job held e h
-long-held t job held (b ∷ text) e h = rw (eq-eqb (job .code) 0 e) (by (eqb b 10) (long-held t job (held ++ (b ∷ [])) text e (rw length-append (omega arith))))
+long-held t job held (b ∷ text) e h = rw (eq-eqb (job .progress .code) 0 e) (by (eqb b 10) (long-held t job (held ++ (b ∷ [])) text e (rw length-append (omega arith))))
   where
     n : List ℕ
-    n = refused 9 (line-number (job .counts))
+    n = refused 9 (line-number (job .progress))
 
     by : (p : Bool) → printed t job (held ++ (b ∷ [])) text ≡ n
         → cond p (line-step t job held .text ++ printed t (line-step t job held .job) [] text) (printed t job (held ++ (b ∷ [])) text) ≡ n
@@ -239,18 +226,19 @@ feedless-front (b ∷ l) = by (eqb b 10) refl (feedless-front l)
     by true e f = (refl, refl)
     by false e f = (rw (f .0), rw (e, f .1))
 
-pub overlong-made : (t : List ℤ) (job : Job) (l rest : List ℕ) → printed t job [] (l ++ rest) ≡ printed t (with-code job (overlong l (job .code))) [] (l ++ rest)
-unfolding overlong with-code
-overlong-made t job l rest = by (eqb (job .code) 0) (ltb 36 (to-feed l)) refl refl
+pub overlong-made : (t : List ℤ) (job : Job) (l rest : List ℕ) → printed t job [] (l ++ rest) ≡ printed t (kept (job .block) (overlong l (job .progress))) [] (l ++ rest)
+unfolding overlong
+overlong-made t job l rest = by (eqb (job .progress .code) 0) (ltb longest (to-feed l)) refl refl
   where
-    by : (p q : Bool) → eqb (job .code) 0 ≡ p → ltb 36 (to-feed l) ≡ q → printed t job [] (l ++ rest) ≡ printed t (with-code job (cond (p && q) 9 (job .code))) [] (l ++ rest)
+    by : (p q : Bool) → eqb (job .progress .code) 0 ≡ p → ltb longest (to-feed l) ≡ q
+        → printed t job [] (l ++ rest) ≡ printed t (kept (job .block) (cond (p && q) (with-code (job .progress) 9) (job .progress))) [] (l ++ rest)
     by true true e g =
         let f = feedless-front l in
         let a : List ℕ = take (to-feed l) l in
         let b : List ℕ = drop (to-feed l) l in
-        let h : 36 < length a = omega (arith, ltb-true 36 (to-feed l) g) in
+        let h : longest < length a = omega (arith, ltb-true longest (to-feed l) g) in
         let k : l ++ rest ≡ a ++ (b ++ rest) = ap (λ (x : List ℕ). x ++ rest) (sym (take-append-drop (to-feed l) l)) ∙ append-assoc a b rest in
-        rw k (sym (again t job [] a (b ++ rest) (f .1 ∙ sym (f .0))) ∙ long-held t job a (b ++ rest) (eqb-true (job .code) 0 e) h ∙ sym (nine-form t job [] (a ++ (b ++ rest))))
+        rw k (sym (again t job [] a (b ++ rest) (f .1 ∙ sym (f .0))) ∙ long-held t job a (b ++ rest) (eqb-true (job .progress .code) 0 e) h ∙ sym (nine-form t job [] (a ++ (b ++ rest))))
     by true false e g = refl
     by false q e g = refl
 
@@ -260,13 +248,13 @@ one-act : (t : List ℤ) (a : Act) (h : Held) (rest : List ℕ)
     → h .written ++ printed t (h .job) [] (h .bytes ++ (text-of (a ∷ []) ++ rest)) ≡ act t a h .written ++ printed t (act t a h .job) [] (act t a h .bytes ++ rest)
 unfolding act text-of
 one-act t (read l) h rest = rw (append-nil l, append-assoc (h .bytes) l rest)
-one-act t (take-lines room) h rest = rw (part-made t (h .job) room [] (h .bytes) rest no-feed, append-assoc)
+one-act t (take-lines most room) h rest = rw (part-made t (h .job) most room [] (h .bytes) rest no-feed, append-assoc)
 one-act t test-overlong h rest = rw (overlong-made t (h .job) (h .bytes) rest)
 
 text-first : (a : Act) (l : List Act) → text-of (a ∷ l) ≡ text-of (a ∷ []) ++ text-of l
 unfolding text-of
 text-first (read r) l = rw (append-nil r)
-text-first (take-lines n) l = refl
+text-first (take-lines most room) l = refl
 text-first test-overlong l = refl
 
 all-acts : (t : List ℤ) (l : List Act) (h : Held) (rest : List ℕ)
@@ -280,7 +268,7 @@ pub record Whole (t : List ℤ) (l : List Act) (job : Job) (h : Held) : Type 0 w
   -- where the text has ended, and no whole line is held
   pub at-end : to-feed (h .bytes) ≡ length (h .bytes) → h .written ++ last-of (h .job) (h .bytes) ≡ printed t job [] (text-of l)
   -- where a line was refused, whatever follows
-  pub at-refusal : (h .job .code ≡ 0 → ⊥) → (rest : List ℕ) → h .written ++ last-of (h .job) (h .bytes) ≡ printed t job [] (text-of l ++ rest)
+  pub at-refusal : (h .job .progress .code ≡ 0 → ⊥) → (rest : List ℕ) → h .written ++ last-of (h .job) (h .bytes) ≡ printed t job [] (text-of l ++ rest)
 
 pub whole : (t : List ℤ) (l : List Act) (job : Job) → Whole t l job (acts t l (record { job = job; bytes = []; written = [] }))
 unfolding printed
@@ -314,14 +302,10 @@ begin-is file t b ht hb = rw (eq-eqb (length t) 1880 ht, eq-eqb (length b) 234 h
 
 -- ---- the program
 
--- a call begins with nothing counted
-unfoldable pub nothing : Counted
-nothing = record { code = 0; counts = record { frames = 0; lost = 0 } }
-
 -- what `begin` answers is the check of the file, and what it leaves where that is 0 begins the call
 begun-is : (file : List ℕ) (t₀ b₀ : List ℤ) {code : ℕ} {t b : List ℤ} → length t₀ ≡ 1880 → length b₀ ≡ 234 → begun code t b ≡ begin file t₀ b₀
-    → (file-check file ≡ code) × (code ≡ 0 → (t ≡ words file) × (kept b nothing ≡ fresh-job (words file)))
-unfolding file-check kept nothing fresh-job
+    → (file-check file ≡ code) × (code ≡ 0 → (t ≡ words file) × (kept b start ≡ fresh-job (words file)))
+unfolding file-check fresh-job
 begun-is file t₀ b₀ {code} {t} {b} ht hb e = by (eqb (length file) 3760) (eqb (table-check w) 0) refl (e ∙ begin-is file t₀ b₀ ht hb)
   where
     w : List ℤ
@@ -329,7 +313,7 @@ begun-is file t₀ b₀ {code} {t} {b} ht hb e = by (eqb (length file) 3760) (eq
 
     by : (p q : Bool) → eqb (table-check w) 0 ≡ q
         → begun code t b ≡ cond p (cond q (begun 0 w (fresh-job w .block)) (begun (table-check w) t₀ b₀)) (begun 1 t₀ b₀)
-        → (cond p (table-check w) 1 ≡ code) × (code ≡ 0 → (t ≡ w) × (kept b nothing ≡ fresh-job w))
+        → (cond p (table-check w) 1 ≡ code) × (code ≡ 0 → (t ≡ w) × (kept b start ≡ fresh-job w))
     by true true g f =
         let hc : code ≡ 0 = cc in
         let hw : t ≡ w = cc in
@@ -349,21 +333,21 @@ pub record Program (file : List ℕ) (code : ℕ) (l : List Act) (h : Held) : Ty
   -- where the text has ended, and no whole line is held
   pub at-end : code ≡ 0 → to-feed (h .bytes) ≡ length (h .bytes) → h .written ++ last-of (h .job) (h .bytes) ≡ output file (text-of l)
   -- where a line was refused, whatever follows
-  pub at-refusal : code ≡ 0 → (h .job .code ≡ 0 → ⊥) → (rest : List ℕ) → h .written ++ last-of (h .job) (h .bytes) ≡ output file (text-of l ++ rest)
+  pub at-refusal : code ≡ 0 → (h .job .progress .code ≡ 0 → ⊥) → (rest : List ℕ) → h .written ++ last-of (h .job) (h .bytes) ≡ output file (text-of l ++ rest)
 
 -- code, t and b are what `call::begin` answers and leaves in blocks of the right lengths
 pub program : (file : List ℕ) (t₀ b₀ : List ℤ) {code : ℕ} {t b : List ℤ} (l : List Act) → length t₀ ≡ 1880 → length b₀ ≡ 234 → begun code t b ≡ begin file t₀ b₀
-    → Program file code l (acts t l (record { job = kept b nothing; bytes = []; written = [] }))
+    → Program file code l (acts t l (record { job = kept b start; bytes = []; written = [] }))
 unfolding output
 program file t₀ b₀ {code} {t} {b} l ht hb e =
     record {
       no-tables = λ n text. rw (f .0, ne-eqb code 0 n);
-      at-end = λ z q. whole t l (kept b nothing) .at-end q ∙ same z (text-of l);
-      at-refusal = λ z n rest. whole t l (kept b nothing) .at-refusal n rest ∙ same z (text-of l ++ rest);
+      at-end = λ z q. whole t l (kept b start) .at-end q ∙ same z (text-of l);
+      at-refusal = λ z n rest. whole t l (kept b start) .at-refusal n rest ∙ same z (text-of l ++ rest);
     }
   where
-    f : (file-check file ≡ code) × (code ≡ 0 → (t ≡ words file) × (kept b nothing ≡ fresh-job (words file)))
+    f : (file-check file ≡ code) × (code ≡ 0 → (t ≡ words file) × (kept b start ≡ fresh-job (words file)))
     f = begun-is file t₀ b₀ ht hb e
 
-    same : code ≡ 0 → (x : List ℕ) → printed t (kept b nothing) [] x ≡ output file x
+    same : code ≡ 0 → (x : List ℕ) → printed t (kept b start) [] x ≡ output file x
     same z x = rw (f .0, eq-eqb code 0 z, f .1 z .0, f .1 z .1)

@@ -2,19 +2,22 @@
 use mathlib.Core.Path.{_≡_, refl, sym, ap, _∙_}
 use mathlib.Core.List.{List, [], _∷_, _++_, append-assoc, append-nil}
 use Prim.Native.Nat.{ℕ, zero, suc, _+_, _-_, _*_, _/_, _%_, _^_, _≤_, _<_, min}
+use mathlib.Core.Bool.{Bool, true, false}
+use borrow.Author.Tests.{leb-true, leb-false}
 use native.Mathlib.Omega.{arith}
 use native.Mathlib.Numerals.{add-one}
 use native.Mathlib.Nat.{pow-succ', lt-of-lt-of-le}
+use lib.Dec.{leb}
 use lib.IntN.{ℤ, pos}
 use lib.Signed.{mag}
-use lib.ListN.{length, take, drop, getD, set, length-append, length-take, drop-of-length-le}
-use lib.Seq.{take-suc, drop-cons, append-snoc, set-at, take-all, take-at, take-suc-set, getD-take}
+use lib.ListN.{length, take, drop, getD, set, length-append, length-take, length-drop, drop-of-length-le, take-append-drop}
+use lib.Seq.{take-suc, drop-cons, append-snoc, set-at, take-length, take-all, take-at, drop-at, take-suc-set, drop-set-lt, drop-drop, getD-take, getD-drop}
 use lib.Pow.{pow-add, pow-mono}
 use mir.Facts.{toZ-ofZ}
 use Rattle.basic_op.specs.Ops.{low16, extract-l}
 use Rattle.basic_op.specs.Low.{low-lt, low-bits}
 use Rattle.laws.specs.Lists.{at, filled, tab-at}
-use Rattle.words.specs.Words.{word, words, bytes, from-bytes, to-bytes, number, number-bytes}
+use Rattle.words.specs.Words.{word, words, bytes, from-bytes, to-bytes, number, number-bytes, numbers-bytes, numbers, read-numbers, put-numbers, Bytes}
 
 -- ---- bytes to words
 
@@ -90,12 +93,12 @@ pub to-end : (l : List ℤ) (out z : List ℕ) (i : ℕ) → z ≡ put l i out �
 unfolding to-bytes put
 to-end l out z i e h = e ∙ rw h
 
--- lent bytes with room for all the words
-pub to-front : (l : List ℤ) (out : List ℕ) → 2 * length l ≤ length out → take (2 * length l) (to-bytes l out) ≡ bytes l
+-- as many bytes as the words have
+pub to-whole : (l : List ℤ) (out : List ℕ) → length out ≡ 2 * length l → to-bytes l out ≡ bytes l
 unfolding to-bytes
-to-front l out h =
+to-whole l out h =
     let n : min (length l) (length out / 2) ≡ length l = omega arith in
-    rw (n, take-all (length l) l (omega arith)) (take-at (bytes l) _ (2 * length l) (length-bytes l))
+    rw (n, take-all (length l) l (omega arith), drop-of-length-le out {i = 2 * length l} (omega arith), append-nil)
 
 -- ---- a number
 
@@ -181,3 +184,176 @@ number-back zero n h = omega arith
 number-back (suc k) n h =
     let p : 256 ^ suc k ≡ 256 * 256 ^ k = pow-succ' 256 k in
     rw (number-back k (n / 256) (omega arith)) (omega arith)
+
+-- ---- several numbers
+
+take-min : (w : ℕ) (l : List ℕ) → take (min w (length l)) l ≡ take w l
+take-min w l = by (leb w (length l)) refl
+  where
+    by : (t : Bool) → leb w (length l) ≡ t → take (min w (length l)) l ≡ take w l
+    by true e = let n : min w (length l) ≡ w = omega (arith, leb-true w (length l) e) in rw n
+    by false e = let h : length l < w = leb-false w (length l) e in let n : min w (length l) ≡ length l = omega arith in rw (n, take-length, take-all w l (omega arith))
+
+drop-min : (w : ℕ) (l : List ℕ) → drop (min w (length l)) l ≡ drop w l
+drop-min w l = by (leb w (length l)) refl
+  where
+    by : (t : Bool) → leb w (length l) ≡ t → drop (min w (length l)) l ≡ drop w l
+    by true e = let n : min w (length l) ≡ w = omega (arith, leb-true w (length l) e) in rw n
+    by false e =
+        let h : length l < w = leb-false w (length l) e in
+        let n : min w (length l) ≡ length l = omega arith in
+        rw (n, drop-of-length-le l {i = length l} (omega arith), drop-of-length-le l {i = w} (omega arith))
+
+-- before turn i: i numbers are read, and the bytes from `at` on have the others
+pub read-more : (ws l out g : List ℕ) (at e i v : ℕ) → i < length ws → i < length out → e ≡ at + min (getD ws i 0) (length l - at)
+    → v ≡ number (take 8 (take (e - at) (drop at l))) → g ≡ take i out ++ read-numbers (drop i ws) (drop at l) (drop i out)
+    → g ≡ take (i + 1) (set out i v) ++ read-numbers (drop (i + 1) ws) (drop e l) (drop (i + 1) (set out i v))
+unfolding read-numbers
+read-more ws l out g at e i v h k f n p =
+    let r : List ℕ = drop at l in
+    let w : ℕ = getD ws i 0 in
+    let m : length r ≡ length l - at = length-drop at l in
+    let d : e - at ≡ min w (length r) = rw m (omega arith) in
+    let a : take w r ≡ take (e - at) r = rw d (sym (take-min w r)) in
+    let j : at + min w (length r) ≡ e = omega arith in
+    let b : drop w r ≡ drop e l = sym (drop-min w r) ∙ drop-drop (min w (length r)) at l ∙ ap (λ (x : ℕ). drop x l) j in
+    p ∙ rw (drop-cons ws i 0 h, drop-cons out i 0 k, add-one, take-suc-set out i v k, drop-set-lt (suc i) out i v (omega arith), a, b, n) (sym (append-snoc (take i out) _ _))
+
+pub read-end : (ws l out g : List ℕ) (at i : ℕ) → i ≡ min (length ws) (length out) → g ≡ take i out ++ read-numbers (drop i ws) (drop at l) (drop i out) → out ≡ g
+unfolding read-numbers
+read-end ws l out g at i h p = sym (p ∙ ap (λ (x : List ℕ). take i out ++ x) (rest (drop i ws) (drop at l) (drop i out) (simp length-drop (omega arith))) ∙ take-append-drop i out)
+  where
+    rest : (ws l out : List ℕ) → min (length ws) (length out) ≡ 0 → read-numbers ws l out ≡ out
+    rest [] l out e = refl
+    rest (w ∷ ws) l [] e = refl
+    rest (w ∷ ws) l (x ∷ out) e = absurd (omega arith)
+
+-- before turn i: i numbers are written, up to place `at`
+pub put-more-numbers : (ws vs out z v g : List ℕ) (at e i : ℕ) → i < length ws → i < length vs → at ≤ length out → e ≡ at + min (getD ws i 0) (length out - at)
+    → v ≡ number-bytes (length (take (e - at) (drop at out))) (getD vs i 0) → z ≡ take at out ++ (v ++ drop (e - at) (drop at out))
+    → g ≡ take at out ++ put-numbers (drop i ws) (drop i vs) (drop at out)
+    → g ≡ take e z ++ put-numbers (drop (i + 1) ws) (drop (i + 1) vs) (drop e z)
+unfolding put-numbers
+put-more-numbers ws vs out z v g at e i h k j f n q p =
+    let r : List ℕ = drop at out in
+    let w : ℕ = getD ws i 0 in
+    let m : length r ≡ length out - at = length-drop at out in
+    let d : min w (length r) ≡ e - at = rw m (omega arith) in
+    let t : length (take (e - at) r) ≡ e - at = rw (length-take, m) (omega arith) in
+    let a : v ≡ number-bytes (e - at) (getD vs i 0) = n ∙ rw t in
+    let c : length v ≡ e - at = rw a (length-number-bytes (e - at) (getD vs i 0)) in
+    let u : length (take at out ++ v) ≡ e = simp (length-append, length-take) (omega arith) in
+    let y : z ≡ (take at out ++ v) ++ drop (e - at) r = q ∙ sym (append-assoc (take at out) v _) in
+    let x : take e z ≡ take at out ++ v = rw y (take-at (take at out ++ v) _ e u) in
+    let o : drop e z ≡ drop (e - at) r = rw y (drop-at (take at out ++ v) (drop (e - at) r) e u) in
+    p ∙ rw (drop-cons ws i 0 h, drop-cons vs i 0 k, d, ← a, add-one, x, o) (sym (append-assoc (take at out) v _))
+
+pub put-end : (ws vs out g : List ℕ) (at i : ℕ) → i ≡ min (length ws) (length vs) → g ≡ take at out ++ put-numbers (drop i ws) (drop i vs) (drop at out) → out ≡ g
+unfolding put-numbers
+put-end ws vs out g at i h p = sym (p ∙ ap (λ (x : List ℕ). take at out ++ x) (rest (drop i ws) (drop i vs) (drop at out) (simp length-drop (omega arith))) ∙ take-append-drop at out)
+  where
+    rest : (ws vs out : List ℕ) → min (length ws) (length vs) ≡ 0 → put-numbers ws vs out ≡ out
+    rest [] vs out e = refl
+    rest (w ∷ ws) [] out e = refl
+    rest (w ∷ ws) (v ∷ vs) out e = absurd (omega arith)
+
+-- as many numbers as are lent
+pub read-whole : (ws l out : List ℕ) → length out ≡ length ws → read-numbers ws l out ≡ numbers ws l
+unfolding read-numbers numbers
+read-whole [] l [] h = refl
+read-whole [] l (x ∷ out) h = absurd (omega arith)
+read-whole (w ∷ ws) l [] h = absurd (omega arith)
+read-whole (w ∷ ws) l (x ∷ out) h = rw (read-whole ws (drop w l) out (omega arith))
+
+-- how many bytes they have
+unfoldable pub total : List ℕ → ℕ
+total [] = 0
+total (w ∷ ws) = w + total ws
+
+pub length-numbers-bytes : (ws vs : List ℕ) → length ws ≡ length vs → length (numbers-bytes ws vs) ≡ total ws
+unfolding numbers-bytes total
+length-numbers-bytes [] vs h = refl
+length-numbers-bytes (w ∷ ws) [] h = absurd (omega arith)
+length-numbers-bytes (w ∷ ws) (v ∷ vs) h = rw (length-append, length-number-bytes, length-numbers-bytes ws vs (omega arith))
+
+-- as many bytes as are lent
+pub put-whole : (ws vs out : List ℕ) → length ws ≡ length vs → length out ≡ total ws → put-numbers ws vs out ≡ numbers-bytes ws vs
+unfolding put-numbers numbers-bytes total
+put-whole [] vs [] h k = refl
+put-whole [] vs (x ∷ out) h k = absurd (omega arith)
+put-whole (w ∷ ws) [] out h k = absurd (omega arith)
+put-whole (w ∷ ws) (v ∷ vs) out h k =
+    let n : min w (length out) ≡ w = omega arith in
+    rw (n, put-whole ws vs (drop w out) (omega arith) (rw length-drop (omega arith)))
+
+-- numbers that have room in their widths, none of more than eight bytes
+pub data Fit : List ℕ → List ℕ → Type 0 where
+  none : Fit [] []
+  more : (w v : ℕ) {ws vs : List ℕ} → w ≤ 8 → v < 256 ^ w → Fit ws vs → Fit (w ∷ ws) (v ∷ vs)
+
+-- what was written is read back, whatever lies behind it
+pub numbers-back : (ws vs l : List ℕ) → Fit ws vs → numbers ws (numbers-bytes ws vs ++ l) ≡ vs
+unfolding numbers numbers-bytes
+numbers-back [] [] l none = refl
+numbers-back (w ∷ ws) (v ∷ vs) l (more _ _ h k f) =
+    let n : length (number-bytes w v) ≡ w = length-number-bytes w v in
+    rw (append-assoc, take-at (number-bytes w v) (numbers-bytes ws vs ++ l) w n, drop-at (number-bytes w v) (numbers-bytes ws vs ++ l) w n, take-all 8 (number-bytes w v) (omega arith), number-back w v k, numbers-back ws vs l f)
+
+-- ---- bytes
+
+pub bytes-join : (l m : List ℕ) → Bytes l → Bytes m → Bytes (l ++ m)
+bytes-join [] m a c k = c k
+bytes-join (b ∷ l) m a c zero = a 0
+bytes-join (b ∷ l) m a c (suc k) = bytes-join l m (λ i. a (suc i)) c k
+
+pub bytes-take : (n : ℕ) (l : List ℕ) → Bytes l → Bytes (take n l)
+bytes-take zero l a k = omega arith
+bytes-take (suc n) [] a k = a k
+bytes-take (suc n) (b ∷ l) a zero = a 0
+bytes-take (suc n) (b ∷ l) a (suc k) = bytes-take n l (λ i. a (suc i)) k
+
+pub bytes-drop : (n : ℕ) (l : List ℕ) → Bytes l → Bytes (drop n l)
+bytes-drop n l a k = rw getD-drop (a (n + k))
+
+pub bytes-number : (n m : ℕ) → Bytes (number-bytes n m)
+unfolding number-bytes
+bytes-number zero m k = omega arith
+bytes-number (suc n) m zero = omega arith
+bytes-number (suc n) m (suc k) = bytes-number n (m / 256) k
+
+pub bytes-numbers : (ws vs : List ℕ) → Bytes (numbers-bytes ws vs)
+unfolding numbers-bytes
+bytes-numbers [] vs k = omega arith
+bytes-numbers (w ∷ ws) [] k = omega arith
+bytes-numbers (w ∷ ws) (v ∷ vs) k = bytes-join (number-bytes w v) _ (bytes-number w v) (bytes-numbers ws vs) k
+
+pub bytes-words : (l : List ℤ) → Bytes (bytes l)
+unfolding bytes
+bytes-words [] k = omega arith
+bytes-words (z ∷ l) zero = omega arith
+bytes-words (z ∷ l) (suc zero) = omega (arith, low-lt z)
+bytes-words (z ∷ l) (suc (suc k)) = bytes-words l k
+
+-- a number of w bytes
+number-lt : (n w : ℕ) (l : List ℕ) → Bytes l → number (take n (take w l)) < 256 ^ w
+unfolding number
+number-lt zero zero l a = omega arith
+number-lt zero (suc w) l a = let p : 256 ^ suc w ≡ 256 * 256 ^ w = pow-succ' 256 w in omega (arith, number-lt zero w l a)
+number-lt (suc n) zero l a = omega arith
+number-lt (suc n) (suc w) [] a = let p : 256 ^ suc w ≡ 256 * 256 ^ w = pow-succ' 256 w in omega (arith, number-lt zero w [] a)
+number-lt (suc n) (suc w) (b ∷ l) a =
+    let p : 256 ^ suc w ≡ 256 * 256 ^ w = pow-succ' 256 w in
+    omega (arith, number-lt n w l (λ k. a (suc k)), a 0)
+
+pub numbers-lt : (ws l : List ℕ) (k : ℕ) → Bytes l → getD (numbers ws l) k 0 < 256 ^ getD ws k 0
+unfolding numbers
+numbers-lt [] l k a = omega arith
+numbers-lt (w ∷ ws) l zero a = number-lt 8 w l a
+numbers-lt (w ∷ ws) l (suc k) a = numbers-lt ws (drop w l) k (bytes-drop w l a)
+
+-- a number stays the same only where its bytes do
+pub number-set : (l : List ℕ) (k v : ℕ) → Bytes l → k < length l → v < 256 → number (set l k v) ≡ number l → v ≡ getD l k 0
+unfolding number
+number-set [] k v a h j e = absurd (omega arith)
+number-set (b ∷ l) zero v a h j e = omega arith
+number-set (b ∷ l) (suc k) v a h j e = number-set l k v (λ n. a (suc n)) (omega arith) j (omega arith)

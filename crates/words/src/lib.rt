@@ -1,9 +1,9 @@
 // Numbers in a file, low byte first: words in two's complement (01, "The call text and the program": the bytes of the tables), and unsigned
-// numbers of up to eight bytes.
+// numbers of up to eight bytes, one or several behind another.
 ghost use mathlib.Core.Path.{_≡_};
 ghost use Prim.Native.Nat.{_*_, _^_, _<_, _≤_, min};
 ghost use lib.ListN.{length, take};
-ghost use Rattle.words.specs.Words.{word, from-bytes, to-bytes, number, number-bytes};
+ghost use Rattle.words.specs.Words.{word, from-bytes, to-bytes, number, number-bytes, read-numbers, put-numbers};
 
 // The lesser of two lengths.
 fn lesser(a: usize, b: usize) -> usize
@@ -68,6 +68,36 @@ pub fn put_number(n: u64, out: &mut [u8])
     while i < out.len() {
         out[i] = (rest % 256) as u8;
         rest = rest / 256;
+        i += 1;
+    }
+}
+
+// The numbers of these widths, one behind another at the front of `bytes`, to the front of `out`, as many as both have; what lies behind them stays as it was.
+pub fn numbers(widths: &[usize], bytes: &[u8], out: &mut [u64])
+    ensures { λ r. ⌜ now (out .exit) ≡ read-numbers (now (widths .entry)) (now (bytes .entry)) (now (out .entry)) ⌝ }
+{
+    let n = lesser(widths.len(), out.len());
+    let mut at = 0;
+    let mut i = 0;
+    while i < n {
+        let end = at + lesser(widths[i], bytes.len() - at);
+        out[i] = number(&bytes[at..end]);
+        at = end;
+        i += 1;
+    }
+}
+
+// The numbers `values`, each in as many bytes as its width says, one behind another at the front of `out`, while there is room; what lies behind them stays as it was.
+pub fn put_numbers(widths: &[usize], values: &[u64], out: &mut [u8])
+    ensures { λ r. ⌜ now (out .exit) ≡ put-numbers (now (widths .entry)) (now (values .entry)) (now (out .entry)) ⌝ }
+{
+    let n = lesser(widths.len(), values.len());
+    let mut at = 0;
+    let mut i = 0;
+    while i < n {
+        let end = at + lesser(widths[i], out.len() - at);
+        put_number(values[i], &mut out[at..end]);
+        at = end;
         i += 1;
     }
 }

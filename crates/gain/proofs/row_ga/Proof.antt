@@ -8,7 +8,7 @@ use Rattle.gain.proofs.row_ga.Tie as tie
 
 returns : tie.Need-returns
 unfolding row-ga
-returns c = cc (came w16 (c .before .map-ga))
+returns c = rw (c .low16 .ensures, came w16 (c .before .map-ga), c .before .map-ga .ensures)
 
 pub row-ga-spec : {M : Type 1} → statement M
 row-ga-spec = tie.close (tie.spec (λ c κs. search needs) (λ c κs. search needs) returns)

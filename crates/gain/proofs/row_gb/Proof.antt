@@ -8,7 +8,7 @@ use Rattle.gain.proofs.row_gb.Tie as tie
 
 returns : tie.Need-returns
 unfolding row-gb
-returns c = cc (came w16 (c .before .map-gb))
+returns c = rw (c .low16 .ensures, came w16 (c .before .map-gb), c .before .map-gb .ensures)
 
 pub row-gb-spec : {M : Type 1} → statement M
 row-gb-spec = tie.close (tie.spec (λ c κs. search needs) (λ c κs. search needs) returns)

@@ -9,7 +9,9 @@ use Rattle.gain.proofs.sharpening.Tie as tie
 
 returns : tie.Need-returns
 unfolding sharpening
-returns c = cc (came w16 (c .greater), came w16 (c .before .lesser), came w16 (c .before .before .scalars), toZ-ofZ (c .before .before .before .fits .gp))
+returns c =
+    let b = c .before in
+    rw (came w16 (c .greater), c .greater .ensures, came w16 (b .lesser), b .lesser .ensures, came w16 (b .before .scalars), b .before .scalars .ensures, toZ-ofZ (b .before .before .fits .gp))
 
 pub sharpening-spec : {M : Type 1} → statement M
 sharpening-spec = tie.close (tie.spec (λ c κs. search needs) (λ c κs. search needs) (λ c κs. search needs) returns)

@@ -1,13 +1,13 @@
 -- `job::read` meets its contract.
+use borrow.Author.Needs.{needs}
 use mathlib.Core.Path.{sym, _∙_}
 use native.Mathlib.Omega.{arith}
 use Rattle.job.specs.Laws.{check-zero, read-refused, read-done}
-use borrow.Author.Needs.{needs}
 use Rattle.job.proofs.read.Statement.{statement}
 use Rattle.job.proofs.read.Tie as tie
 
 returns : tie.Need-returns
-returns c = read-refused _ _ _ _ _ (c .before .before .check .ensures) (c .before .if1 .taken) (c .start .ensures)
+returns c = read-refused _ _ _ _ (c .before .check .ensures) (c .if1 .taken)
 
 part-from-bytes-end : tie.Need-part-from-bytes-end
 part-from-bytes-end c = omega (arith, check-zero _ _ (sym (c .before .check .ensures) ∙ c .if1 .left))
@@ -25,5 +25,5 @@ returns-2 c =
 pub read-spec : {M : Type 1} → statement M
 read-spec =
     tie.close
-    (tie.spec (λ c κs. search needs) (λ c κs. search needs) returns (λ c. search needs) (λ c. search needs) part-from-bytes-end (λ c κs. search needs)
-    place-requires returns-2)
+    (tie.spec (λ c κs. search needs) returns (λ c. search needs) (λ c. search needs) part-from-bytes-end (λ c κs. search needs) place-requires
+    returns-2)

@@ -1,12 +1,12 @@
 -- `job::start` meets its contract.
-use mathlib.Core.Path.{refl}
+use borrow.Author.Needs.{needs}
 use Rattle.job.specs.Job.{start}
 use Rattle.job.proofs.start.Statement.{statement}
 use Rattle.job.proofs.start.Tie as tie
 
 returns : tie.Need-returns
 unfolding start
-returns c = refl
+returns c = rw (c .none .ensures)
 
 pub start-spec : {M : Type 1} → statement M
-start-spec = tie.close (tie.spec returns)
+start-spec = tie.close (tie.spec (λ c κs. search needs) returns)

@@ -1,6 +1,6 @@
 -- `job::sum_fits` meets its contract.
-use Rattle.job.specs.Laws.{sum-is}
 use borrow.Author.Needs.{needs}
+use Rattle.job.specs.Laws.{sum-is}
 use Rattle.job.proofs.sum_fits.Statement.{statement}
 use Rattle.job.proofs.sum_fits.Tie as tie
 

@@ -9,7 +9,7 @@ use Rattle.lpc.proofs.half_q12.Tie as tie
 
 returns : tie.Need-returns
 unfolding half-q12
-returns c = cc (came w16 (c .extract-l), came w32 (c .before .l-shr-r), toZ-ofZ (c .before .before .fits .x))
+returns c = rw (came w16 (c .extract-l), c .extract-l .ensures, came w32 (c .before .l-shr-r), c .before .l-shr-r .ensures, toZ-ofZ (c .before .before .fits .x))
 
 pub half-q12-spec : {M : Type 1} → statement M
 half-q12-spec = tie.close (tie.spec (λ c κs. search needs) (λ c κs. search needs) returns)

@@ -4,7 +4,8 @@ use native.Mathlib.Omega.{arith}
 use borrow.Author.Needs.{needs}
 use borrow.Fn.Kinds.{In}
 use borrow.Fn.PlainCycle.{Measures, is, falls, and}
-use Rattle.print.specs.Laws.{but-last, written-one, written-more}
+use Rattle.text.specs.Laws.{kept}
+use Rattle.print.specs.Laws.{but-last, number-one, number-more}
 use Rattle.print.proofs.number.Reads as number
 use Rattle.print.proofs.number.Kinds as number-kinds
 use Rattle.print.proofs.+number.Lts-number as number-lts
@@ -24,21 +25,22 @@ number-below t = and 1 number-kinds.ps (falls 1 number-kinds.ps _<_ μ-number t)
 returns : (t : ℕ) → number-lts.Need-returns (number-below t, number.Post) (number-at t) number.Post
 returns t c =
     let s = c .before .before in
-    written-one (s .args .n) (s .args .from) (s .args .out .now) (omega arith) (search needs)
+    number-one (s .args .n) (s .args .from) (s .args .out .now) (omega arith) (search needs)
 
 write : (t : ℕ) → number-lts.Need-slice-write-out-2 (number-below t, number.Post) (number-at t) number.Post
 write t c =
     let b = c .before .before in
     let s = b .before .before .before .before in
-    omega (arith, but-last (s .args .n) (s .fits .n .fits), b .number .ensures .1 .0, b .number .kept .1 .1 .0)
+    let p = b .number .ensures .1 in
+    omega (arith, but-last (s .args .n) (s .fits .n .fits), p .place, kept p)
 
 returns-2 : (t : ℕ) → number-lts.Need-returns-2 (number-below t, number.Post) (number-at t) number.Post
 returns-2 t c =
     let b = c .before .before in
     let s = b .before .before .before .before in
-    let e = b .number .ensures .1 in
-    written-more (s .args .n) (s .args .from) (b .number .result) (s .args .out .now) _ (omega arith) (s .fits .n .fits)
-    (omega (arith, but-last (s .args .n) (s .fits .n .fits), e .0)) (e .0) (e .1)
+    let p = b .number .ensures .1 in
+    number-more (s .args .n) (s .args .from) (b .number .result) (s .args .out .now) _ (omega arith) (s .fits .n .fits)
+    (omega (arith, but-last (s .args .n) (s .fits .n .fits), p .place, kept p)) p
 
 pub +number-spec : {M : Type 1} → statement M
 +number-spec =

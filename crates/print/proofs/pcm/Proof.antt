@@ -1,15 +1,30 @@
 -- `print::pcm` meets its contract: three parts, each behind what stands in front of it.
+use native.Mathlib.Omega.{arith}
 use borrow.Author.Needs.{needs}
-use Rattle.print.specs.Laws.{pcm-whole}
+use Rattle.text.specs.Laws.{then}
+use Rattle.print.specs.Print.{pcm}
+use Rattle.print.specs.Laws.{length-words, front}
 use Rattle.print.proofs.pcm.Statement.{statement}
 use Rattle.print.proofs.pcm.Tie as tie
 
+words-requires : tie.Need-words-requires
+words-requires c κs = omega (arith, c .before .put .ensures .place)
+
+put-requires-2 : tie.Need-put-requires-2
+put-requires-2 c κs =
+    let w = c .before .before in
+    let p = w .before .before in
+    omega (arith, p .put .ensures .place, w .words .ensures .place, length-words 80 (p .before .before .before .args .samples .now))
+
 returns : tie.Need-returns
+unfolding pcm
 returns c =
-    let u = c .before .before .before in
-    let w = u .before .before in
-    let s = w .before .before .before .args in
-    pcm-whole (s .samples .now) (s .out .now) (w .put .last .1 .1 .0) (u .words .last .1 .0) (c .put2 .last .1 .1 .0) (w .put .ensures) (u .words .ensures) (c .put2 .ensures) (search needs) (search needs)
+    let w = c .before .before .before in
+    let p = w .before .before in
+    let s = p .before .before .before .args in (
+      omega (arith, p .put .ensures .place, w .words .ensures .place, c .put2 .ensures .place, length-words 80 (s .samples .now)),
+      front (then (then (p .put .ensures) (w .words .ensures)) (c .put2 .ensures)),
+    )
 
 pub pcm-spec : {M : Type 1} → statement M
-pcm-spec = tie.close (tie.spec (λ c. search needs) (λ c κs. search needs) (λ c κs. search needs) (λ c. search needs) (λ c κs. search needs) returns)
+pcm-spec = tie.close (tie.spec (λ c. search needs) (λ c κs. search needs) words-requires (λ c. search needs) put-requires-2 returns)

@@ -1,29 +1,13 @@
--- `print::total` meets its contract: five parts, each behind what stands in front of it.
-use mathlib.Core.Path.{refl}
-use mathlib.Core.List.{[], _∷_}
-use Prim.Native.Nat.{_+_}
+-- `print::total` meets its contract: the figures behind its opening.
 use borrow.Author.Needs.{needs}
-use Rattle.print.specs.Print.{decimal, total}
-use Rattle.print.specs.Laws.{five}
+use Rattle.print.specs.Print.{total}
+use Rattle.print.specs.Laws.{front}
 use Rattle.print.proofs.total.Statement.{statement}
 use Rattle.print.proofs.total.Tie as tie
 
 returns : tie.Need-returns
 unfolding total
-returns c =
-    let n = c .before .before .before in
-    let p = n .before .before in
-    let m = p .before .before .before in
-    let w = m .before .before in
-    let s = w .before .before .before .args in (
-      search needs,
-      five (40 ∷ 116 ∷ 111 ∷ 116 ∷ 97 ∷ 108 ∷ 32 ∷ 40 ∷ 102 ∷ 114 ∷ 97 ∷ 109 ∷ 101 ∷ 115 ∷ 32 ∷ []) (decimal (s .frames)) (41 ∷ 32 ∷ 40 ∷ 108 ∷ 111 ∷ 115 ∷ 116 ∷ 32 ∷ []) (decimal (s .lost)) (41 ∷ 41 ∷ 10 ∷ []) (w .put .last .1 .1 .0) (m .number .last .1 .1 .0) (p .put2 .last .1 .1 .0) (n .number2 .last .1 .1 .0) (c .put3 .last .1 .1 .0) (s .out .now)
-          (m .number .result) (m .number .result + 8) (n .number2 .result) (w .put .ensures) (m .number .ensures .1 .1) (m .number .ensures .1 .0) (p .put2 .ensures)
-          refl (n .number2 .ensures .1 .1) (n .number2 .ensures .1 .0) (c .put3 .ensures),
-    )
+returns c = (c .figures .ensures .0, front (c .figures .ensures .1))
 
 pub total-spec : {M : Type 1} → statement M
-total-spec =
-    tie.close
-    (tie.spec (λ c. search needs) (λ c κs. search needs) (λ c κs. search needs) (λ c. search needs) (λ c κs. search needs) (λ c. search needs)
-    (λ c κs. search needs) (λ c. search needs) (λ c κs. search needs) (λ c. search needs) returns)
+total-spec = tie.close (tie.spec (λ c κs. search needs) returns)

@@ -1,0 +1,3 @@
+-- The definitions that the contracts of `crc32` cite, and their laws.
+pub mod Crc32
+pub mod Laws

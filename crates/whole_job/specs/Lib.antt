@@ -1,0 +1,6 @@
+-- Theorems on jobs that are stopped and resumed.
+pub mod Back
+pub mod Damage
+pub mod Fits
+pub mod Resume
+pub mod Call
