@@ -81,17 +81,17 @@ unfolding number
 five l k b0 b1 b2 b3 b4 e0 e1 e2 e3 e4 = simp (getD-drop, add-zero) (omega arith)
 
 -- the whole is the first five bytes above the others
-halves : (l : List ℕ) → number l 10 ≡ number l 5 * 2 ^ 40 + number (drop 5 l) 5
+pub halves : (l : List ℕ) → number l 10 ≡ number l 5 * 2 ^ 40 + number (drop 5 l) 5
 unfolding number
 halves l = simp getD-drop (omega arith)
 
 -- a field that lies above the low half
-upper : (hi lo low width : ℕ) → lo < 2 ^ 40 → bits (hi * 2 ^ 40 + lo) (40 + low) width ≡ bits hi low width
+pub upper : (hi lo low width : ℕ) → lo < 2 ^ 40 → bits (hi * 2 ^ 40 + lo) (40 + low) width ≡ bits hi low width
 unfolding bits
 upper hi lo low width h = ap (λ (x : ℕ). x % 2 ^ width) (sym (shr-shr (hi * 2 ^ 40 + lo) 40 low) ∙ ap (λ (x : ℕ). x / 2 ^ low) (high hi 40 h))
 
 -- a field that lies within the low part, `rest` bits below its end
-lower : (hi lo rest width low : ℕ) → bits (hi * 2 ^ (rest + (width + low)) + lo) low width ≡ bits lo low width
+pub lower : (hi lo rest width low : ℕ) → bits (hi * 2 ^ (rest + (width + low)) + lo) low width ≡ bits lo low width
 unfolding bits
 lower hi lo rest width low =
     sym (field (hi * 2 ^ (rest + (width + low)) + lo) width low) ∙ ap (λ (x : ℕ). x / 2 ^ low) (kept (width + low)) ∙ field lo width low
@@ -101,51 +101,6 @@ lower hi lo rest width low =
         sym (mod-mod-pow (hi * 2 ^ (rest + m) + lo) rest m)
         ∙ ap (λ (x : ℕ). x % 2 ^ m) (mul-add-mod-self-right hi (2 ^ (rest + m)) lo)
         ∙ mod-mod-pow lo rest m
-
--- the fields as the code reads them from the halves a and b
-unfoldable pub from-halves : ℕ → ℕ → SpeechParams
-from-halves a b =
-    record {
-      l0 = bits a 39 1;
-      l1 = bits a 32 7;
-      l2 = bits a 27 5;
-      l3 = bits a 22 5;
-      p1 = bits a 14 8;
-      p0 = bits a 13 1;
-      c1 = bits a 0 13;
-      s1 = bits b 36 4;
-      ga1 = bits b 33 3;
-      gb1 = bits b 29 4;
-      p2 = bits b 24 5;
-      c2 = bits b 11 13;
-      s2 = bits b 7 4;
-      ga2 = bits b 4 3;
-      gb2 = bits b 0 4;
-    }
-
--- they are the frame's fields
-pub by-halves : (l : List ℕ) (a b : ℕ) → a ≡ number l 5 → b ≡ number (drop 5 l) 5 → b < 2 ^ 40 → unpack l ≡ from-halves a b
-unfolding from-halves unpack fields widths sum cut
-by-halves l a b ea eb h =
-    rw (halves l, ← ea, ← eb)
-    (λ i.
-    record {
-      l0 = upper a b 39 1 h i;
-      l1 = upper a b 32 7 h i;
-      l2 = upper a b 27 5 h i;
-      l3 = upper a b 22 5 h i;
-      p1 = upper a b 14 8 h i;
-      p0 = upper a b 13 1 h i;
-      c1 = upper a b 0 13 h i;
-      s1 = lower a b 0 4 36 i;
-      ga1 = lower a b 4 3 33 i;
-      gb1 = lower a b 7 4 29 i;
-      p2 = lower a b 11 5 24 i;
-      c2 = lower a b 16 13 11 i;
-      s2 = lower a b 29 4 7 i;
-      ga2 = lower a b 33 3 4 i;
-      gb2 = lower a b 36 4 0 i;
-    })
 
 -- ---- a receiver written in order
 

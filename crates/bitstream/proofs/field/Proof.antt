@@ -8,12 +8,6 @@ use Rattle.bitstream.specs.Laws.{one-shl, bits-lt}
 use Rattle.bitstream.proofs.field.Statement.{statement}
 use Rattle.bitstream.proofs.field.Tie as tie
 
-shr-result : tie.Need-shr-result
-shr-result c = search needs
-
-shl-result : tie.Need-shl-result
-shl-result c = search needs
-
 rem-result : tie.Need-rem-result
 rem-result c = rw (one-shl (c .args .width) (omega arith)) (pow-pos (c .args .width))
 
@@ -31,4 +25,4 @@ unfolding bits
 returns c = rw (one-shl (c .args .width) (omega arith))
 
 pub field-spec : {M : Type 1} → statement M
-field-spec = tie.close (tie.spec shr-result shl-result rem-result cast-result returns)
+field-spec = tie.close (tie.spec (λ c. search needs) (λ c. search needs) rem-result cast-result returns)

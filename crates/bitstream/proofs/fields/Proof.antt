@@ -14,15 +14,6 @@ returns-2 : tie.Need-returns-2
 unfolding fields-call
 returns-2 c = rw (eq-eqb _ _ (c .before .if1 .left), ne-eqb _ _ (c .if2 .taken))
 
-unpack-requires : tie.Need-unpack-requires
-unpack-requires c κs = search needs
-
-store-requires : tie.Need-store-requires
-store-requires c κs = search needs
-
-same-length : tie.Need-same-length
-same-length c = search needs
-
 returns-3 : tie.Need-returns-3
 unfolding fields-call
 returns-3 c =
@@ -31,4 +22,4 @@ returns-3 c =
 
 pub fields-spec : {M : Type 1} → statement M
 fields-spec =
-    tie.close (tie.spec returns returns-2 unpack-requires store-requires same-length returns-3)
+    tie.close (tie.spec returns returns-2 (λ c κs. search needs) (λ c κs. search needs) (λ c. search needs) returns-3)

@@ -14,27 +14,6 @@ Inv-loop receiver₀ v i₀ receiver i = (i ≤ 15) × ((length receiver ≡ 15)
 abbrev μ-loop : tie.MeasureT-loop
 μ-loop receiver₀ v i₀ receiver i = 15 - i
 
-loop-holds : tie.Need-loop-holds Inv-loop μ-loop
-loop-holds c = (search needs, (search needs, refl))
-
-mul-receiver : tie.Need-mul-receiver Inv-loop μ-loop
-mul-receiver c = search needs
-
-array-read-receiver : tie.Need-array-read-receiver Inv-loop μ-loop
-array-read-receiver c = search needs
-
-mul-receiver-2 : tie.Need-mul-receiver-2 Inv-loop μ-loop
-mul-receiver-2 c = search needs
-
-slice-write-receiver : tie.Need-slice-write-receiver Inv-loop μ-loop
-slice-write-receiver c = search needs
-
-add-i : tie.Need-add-i Inv-loop μ-loop
-add-i c = search needs
-
-loop-less : tie.Need-loop-less Inv-loop μ-loop
-loop-less c = search needs
-
 loop-again : tie.Need-loop-again Inv-loop μ-loop
 loop-again c =
     let l = c .before .loop in (
@@ -45,9 +24,6 @@ loop-again c =
       ),
     )
 
-same-length : tie.Need-same-length Inv-loop μ-loop
-same-length c = search needs
-
 returns : tie.Need-returns Inv-loop μ-loop
 returns c =
     let l = c .before .loop in
@@ -56,5 +32,5 @@ returns c =
 pub store-spec : {M : Type 1} → statement M
 store-spec =
     tie.close
-    (tie.spec Inv-loop μ-loop loop-holds mul-receiver array-read-receiver mul-receiver-2 slice-write-receiver add-i loop-less loop-again same-length
-    returns)
+    (tie.spec Inv-loop μ-loop (λ c. (search needs, (search needs, refl))) (λ c. search needs) (λ c. search needs) (λ c. search needs)
+    (λ c. search needs) (λ c. search needs) (λ c. search needs) loop-again (λ c. search needs) returns)

@@ -12,4 +12,6 @@ returns c =
     rw (k .remember-output .ensures, k .before .past-rows .ensures) (search needs)
 
 pub next-params-spec : {M : Type 1} → statement M
-next-params-spec = tie.close (tie.spec (λ c κs. search needs) (λ c κs. search needs) (λ c. search needs) (λ c. search needs) (λ c. search needs) (λ c. search needs) returns)
+next-params-spec =
+    tie.close
+    (tie.spec (λ c κs. search needs) (λ c κs. search needs) (λ c. search needs) (λ c. search needs) (λ c. search needs) (λ c. search needs) returns)

@@ -12,4 +12,7 @@ returns-2 : tie.Need-returns-2
 returns-2 c = c .in-thirds2 .ensures ∙ t1-whole _ (c .before .if1 .left)
 
 pub decode-t1-spec : {M : Type 1} → statement M
-decode-t1-spec = tie.close (tie.spec (λ c. search needs) (λ c κs. search needs) (λ c. search needs) (λ c. search needs) (λ c. search needs) (λ c. search needs) (λ c κs. search needs) returns (λ c. search needs) (λ c κs. search needs) returns-2)
+decode-t1-spec =
+    tie.close
+    (tie.spec (λ c. search needs) (λ c κs. search needs) (λ c. search needs) (λ c. search needs) (λ c. search needs) (λ c. search needs)
+    (λ c κs. search needs) returns (λ c. search needs) (λ c κs. search needs) returns-2)

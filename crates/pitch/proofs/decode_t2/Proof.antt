@@ -13,4 +13,7 @@ returns c =
     c .in-thirds .ensures ∙ t2-thirds _ _ _ _ (m .before .third .ensures) (m .t-min .ensures ∙ ap t-min (toZ-ofZ (m .before .before .fits .t1)))
 
 pub decode-t2-spec : {M : Type 1} → statement M
-decode-t2-spec = tie.close (tie.spec (λ c. search needs) (λ c κs. search needs) (λ c κs. search needs) (λ c. search needs) (λ c. search needs) (λ c. search needs) (λ c. search needs) (λ c. search needs) (λ c κs. search needs) returns)
+decode-t2-spec =
+    tie.close
+    (tie.spec (λ c. search needs) (λ c κs. search needs) (λ c κs. search needs) (λ c. search needs) (λ c. search needs) (λ c. search needs)
+    (λ c. search needs) (λ c. search needs) (λ c κs. search needs) returns)

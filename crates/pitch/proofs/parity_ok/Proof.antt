@@ -16,4 +16,6 @@ returns c =
     (odd-sum _ _ _ (odd-sum _ _ _ (odd-sum _ _ _ (odd-sum _ _ _ (odd-sum _ _ _ (odd-sum 1 1 _ refl))))))
 
 pub parity-ok-spec : {M : Type 1} → statement M
-parity-ok-spec = tie.close (tie.spec (λ c. search needs) (λ c. search needs) (λ c. search needs) (λ c. search needs) (λ c. search needs) (λ c. search needs) returns)
+parity-ok-spec =
+    tie.close
+    (tie.spec (λ c. search needs) (λ c. search needs) (λ c. search needs) (λ c. search needs) (λ c. search needs) (λ c. search needs) returns)

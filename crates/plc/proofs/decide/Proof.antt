@@ -10,12 +10,9 @@ returns : tie.Need-returns
 unfolding decide
 returns c = rw (ne-eqb (c .before .before .args .kind) 0 (λ e. omega arith))
 
-unpack-requires : tie.Need-unpack-requires
-unpack-requires c κs = search needs
-
 returns-2 : tie.Need-returns-2
 unfolding decide
 returns-2 c = rw (eq-eqb (c .before .before .before .args .kind) 0 (omega arith), c .unpack .ensures)
 
 pub decide-spec : {M : Type 1} → statement M
-decide-spec = tie.close (tie.spec returns unpack-requires returns-2)
+decide-spec = tie.close (tie.spec returns (λ c κs. search needs) returns-2)
