@@ -9,7 +9,7 @@ use lib.IntN.{ℤ, pos}
 use lib.ListN.{length, replicate, length-replicate}
 use mir.Facts.{and-yes}
 use Rattle.tables.specs.Layout.{accepted-tables}
-use Rattle.state.specs.State.{State, read-params, read, write, fresh, accepted, state-check, accepted-state}
+use Rattle.state.specs.State.{read-params, read, write, fresh, accepted, state-check, accepted-state}
 use Rattle.plc.specs.Kinds.{decide}
 use Rattle.state.specs.Laws.{Sized, read-sized, read-write, write-read, fresh-sized, fresh-accepted, accepted-of-check, check-of-accepted, accepted-parts}
 use Rattle.decoder.specs.Call.{first-of, refusal, number, block, output, frame}

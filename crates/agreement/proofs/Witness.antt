@@ -1,5 +1,5 @@
 -- The counts 3, 5 and 6 of demand 3 can't be less: one table block, two states and one list of five frames, computed.
-use Prim.Native.Nat.{ℕ, _-_}
+use Prim.Native.Nat.{ℕ}
 use mathlib.Core.Path.{_≡_, refl, sym, subst, _∙_}
 use mathlib.Core.Bool.{Bool, false}
 use mathlib.Core.List.{List, [], _∷_, _++_}
