@@ -92,11 +92,7 @@ pub fn numbers(c: Counts) -> [u64; NUMBERS]
 fn narrow(n: u64) -> u32
     ensures { λ r. ⌜ r ≡ min n 4294967295 ⌝ }
 {
-    if n < 4294967295 {
-        n as u32
-    } else {
-        4294967295
-    }
+    if n < 4294967295 { n as u32 } else { 4294967295 }
 }
 
 // The counts that these numbers are.

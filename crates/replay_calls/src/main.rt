@@ -65,7 +65,28 @@ fn read(
     }
 }
 
-// The whole lines that are there, as many as the output has room for; where there is none, reads on.
+// The whole lines that are there, as many as the output has room for; `more` says whether there was one.
+fn decode(t: &[i16], b: &mut [i16], p: Place, input: &[u8], out: &mut [u8]) -> Place
+    requires { ⌜ (p .from ≤ p .to) × (p .to ≤ length (now input)) ⌝ }
+    ensures { λ r. ⌜ (r .from ≤ r .to) × (r .to ≤ length (now (input .entry))) ⌝ }
+{
+    let from = p.from;
+    let to = p.to;
+    let job = p.job;
+    let taken = call::turn(t, b, job, MOST, &input[from..to], out);
+    let next = taken.job;
+    let written = taken.written;
+    io::write_all(STDOUT_FILENO, &out[0..written]);
+    Place {
+        job: next,
+        from: from + taken.used,
+        to,
+        at: p.at,
+        more: 0 < written,
+    }
+}
+
+// A turn: lines, or a read where there is none; none follows a refusal.
 fn turn(
     t: &[i16],
     b: &mut [i16],
@@ -78,26 +99,21 @@ fn turn(
     requires { ⌜ (p .from ≤ p .to) × (p .to ≤ length (now input)) ⌝ }
     ensures { λ r. ⌜ (r .from ≤ r .to) × (r .to ≤ length (now (input .entry))) ⌝ }
 {
-    let from = p.from;
-    let to = p.to;
-    let at = p.at;
-    let job = p.job;
-    let taken = call::turn(t, b, job, MOST, &input[from..to], out);
-    let next = taken.job;
-    let end = from + taken.used;
-    let written = taken.written;
-    io::write_all(STDOUT_FILENO, &out[0..written]);
-    let more = next.code == 0;
-    if more && written == 0 {
-        return read(next, end, to, text, at, size, input);
+    let q = decode(t, b, p, input, out);
+    let job = q.job;
+    if job.code != 0 {
+        return Place {
+            job,
+            from: q.from,
+            to: q.to,
+            at: q.at,
+            more: false,
+        };
     }
-    Place {
-        job: next,
-        from: end,
-        to,
-        at,
-        more,
+    if q.more {
+        return q;
     }
+    read(job, q.from, q.to, text, q.at, size, input)
 }
 
 fn write_form(form: &[u8; FORM_ROOM], n: usize)
