@@ -11,7 +11,7 @@ use Rattle.print.specs.Print.{over, frame-room}
 use Rattle.state.specs.State as State
 use Rattle.words.specs.Words.{words}
 use Rattle.line_step.specs.declared.Progress.{Progress}
-use Rattle.line_step.specs.Step.{Job, Step, with-code, line-step}
+use Rattle.line_step.specs.Step.{Job, Step, kept, with-code, line-step}
 
 -- what the lines that were taken print, what is kept after them, and the bytes behind them
 pub record Part : Type 0 where
@@ -58,6 +58,15 @@ to-feed (b ∷ l) = cond (eqb b 10) 0 (suc (to-feed l))
 -- more bytes without a line feed than the longest line has are no line, whatever follows: code 9
 unfoldable pub overlong : List ℕ → Progress → Progress
 overlong l p = cond (eqb (p .code) 0 && ltb longest (to-feed l)) (with-code p 9) p
+
+-- ---- a turn of a program
+
+-- what is left behind a part's lines is refused where it is overlong
+unfoldable pub tested : Part → Part
+tested p = record { text = p .text; job = kept (p .job .block) (overlong (p .unused) (p .job .progress)); unused = p .unused }
+
+unfoldable pub turn : List ℤ → Job → ℕ → List ℕ → List ℕ → Answer
+turn t job most held out = given held out (tested (part t job most (length out) [] held))
 
 -- ---- the tables
 

@@ -4,11 +4,11 @@ use mathlib.Core.Bool.{Bool, true, false, cond, _&&_}
 use mathlib.Core.List.{List, [], _∷_, _++_, append-assoc, append-nil}
 use Prim.Native.Nat.{ℕ, suc, _+_, _-_, _≤_, _<_, min}
 use native.Mathlib.Omega.{arith}
-use native.Mathlib.Nat.{sub-zero, zero-add, add-comm}
+use native.Mathlib.Nat.{sub-zero, sub-self, zero-add, add-comm}
 use lib.Dec.{eqb, leb, ltb}
 use lib.IntN.{ℤ}
 use lib.ListN.{length, getD, take, drop, set, drop-of-length-le, length-append, length-take, length-drop, take-append-drop}
-use lib.Seq.{take-length, take-all, drop-drop, append-snoc, getD-drop, getD-take, take-append-seam, take-at, drop-at, paste, slice, drop-paste}
+use lib.Seq.{take-length, take-all, drop-drop, append-snoc, getD-drop, getD-take, take-append-seam, drop-append-add, take-at, drop-at, paste, slice, drop-paste}
 use borrow.Author.Tests.{lt-ltb, le-ltb, le-leb, eq-eqb, ne-eqb, eqb-true, leb-true, ltb-true}
 use Rattle.bytes.specs.Bytes as Bytes
 use Rattle.print.specs.Print.{total, refused, over, frame-room, form-room}
@@ -22,7 +22,7 @@ use Rattle.line_step.specs.Step.{Job, Step, kept, with-code, line-step}
 use Rattle.line_step.specs.Step as Step
 use Rattle.line_step.specs.Laws.{sized, step-lines}
 use Rattle.call.specs.Call.{line-number, last-form}
-use Rattle.call.specs.Chunk.{Part, none, behind, goes-on, part, answer, given, lines, to-feed, overlong, begun, with-state, begin}
+use Rattle.call.specs.Chunk.{Part, none, behind, goes-on, part, answer, given, lines, to-feed, overlong, tested, turn, begun, with-state, begin}
 
 -- ---- lines taken from a part of the text
 
@@ -190,11 +190,11 @@ module _ (t b₀ : List ℤ) (from : Progress) (most : ℕ) (input out₀ : List
         (omega arith, (q .1 .0, omega arith))
 
     -- what it printed is copied behind what was written
-    pub turn : {v : List ℕ} → length b′ ≡ length b
+    pub line-taken : {v : List ℕ} → length b′ ≡ length b
         → v ≡ take (length (take (m - 0) text)) (take (m - 0) text) ++ drop (length (take (m - 0) text)) (take (length out - written) (drop written out))
         → So-far t b₀ from most input out₀ b′ p (left - 1) (take written out ++ (v ++ drop (length out - written) (drop written out))) (end + 1) (written + m)
     unfolding follow behind
-    turn {v = w} lb e =
+    line-taken {v = w} lb e =
         let q = step-lines t (kept b job) (take (end - used) (drop used input)) in
         let z : step .job .progress .lines ≡ p .lines = ap (λ (j : Job). j .progress .lines) (is .job-is) in
         let r = room in
@@ -215,6 +215,76 @@ module _ (t b₀ : List ℤ) (from : Progress) (most : ℕ) (input out₀ : List
           rest = rw (s, drop-at (take written out ++ v) (drop (written + m) out) (written + m) lw) (sym (drop-drop m written out) ∙ rw (f .rest) (drop-drop m written out₀));
           parts = after ∙ rw (s, take-at (take written out ++ v) (drop (written + m) out) (written + m) lw, ← is .text-is, is .job-is, lv, d, append-assoc);
         }
+
+-- the bytes behind a part's lines are the end of the part
+suffix-more : (a l u : List ℕ) → length u ≤ length l → drop (length l - length u) l ≡ u → drop (length (a ++ l) - length u) (a ++ l) ≡ u
+suffix-more a l u h e =
+    let n : length (a ++ l) - length u ≡ length a + (length l - length u) = rw length-append (omega arith) in
+    rw (n, drop-append-add a l (length l - length u)) e
+
+abbrev Suffix : List ℕ → List ℕ → Type 0
+Suffix u l = (length u ≤ length l) × (drop (length l - length u) l ≡ u)
+
+suffix-self : (l : List ℕ) → Suffix l l
+suffix-self l = (omega arith, rw (sub-self (length l)))
+
+suffix-behind : (a l u : List ℕ) → Suffix u l → Suffix u (a ++ l)
+suffix-behind a l u h = (rw length-append (omega arith), suffix-more a l u (h .0) (h .1))
+
+part-suffix : (t : List ℤ) (job : Job) (most room : ℕ) (held l : List ℕ) → Suffix (part t job most room held l .unused) (held ++ l)
+unfolding part none behind
+part-suffix t job most room held [] = rw append-nil (suffix-self held)
+part-suffix t job most room held (b ∷ l) =
+    by (goes-on (job .progress) most room) (eqb b 10) refl refl (part-suffix t (s .job) (most - 1) (room - length (s .text)) [] l) (part-suffix t job most room (held ++ (b ∷ [])) l)
+  where
+    s : Step
+    s = line-step t job held
+
+    by : (p q : Bool) → goes-on (job .progress) most room ≡ p → eqb b 10 ≡ q → Suffix (part t (s .job) (most - 1) (room - length (s .text)) [] l .unused) l
+        → Suffix (part t job most room (held ++ (b ∷ [])) l .unused) ((held ++ (b ∷ [])) ++ l) → Suffix (part t job most room held (b ∷ l) .unused) (held ++ (b ∷ l))
+    by true true e g f k = rw (e, g, ← append-snoc held b l) (suffix-behind (held ++ (b ∷ [])) l _ f)
+    by true false e g f k = rw (e, g, ← append-snoc held b l) k
+    by false q e g f k = rw e (suffix-self (held ++ (b ∷ l)))
+
+-- ---- what `lines` and `turn` promise of their answer and the lent output, in terms of the part
+
+given-is : (input out : List ℕ) (p : Part) {next : Job} {used written : ℕ} {left : List ℕ} → Suffix (p .unused) input → answer next used written left ≡ given input out p
+    → (next ≡ p .job) × ((drop used input ≡ p .unused) × (take written left ≡ p .text))
+unfolding given over
+given-is input out p {next} {used} {written} {left} s e =
+    let hn : next ≡ p .job = cc in
+    let hu : used ≡ length input - length (p .unused) = cc in
+    let hw : written ≡ length (p .text) = cc in
+    let hl : left ≡ p .text ++ drop (length (p .text)) out = cc in
+    (hn, (rw hu (s .1), rw (hw, hl) (take-append-seam (p .text) (drop (length (p .text)) out))))
+
+module _ (t : List ℤ) (job : Job) (most : ℕ) (input out : List ℕ) where
+  abbrev P : Part
+  P = part t job most (length out) [] input
+
+  pub lines-are : {next : Job} {used written : ℕ} {left : List ℕ} → answer next used written left ≡ lines t job most input out → (next ≡ P .job) × ((drop used input ≡ P .unused) × (take written left ≡ P .text))
+  unfolding lines
+  lines-are e = given-is input out P (part-suffix t job most (length out) [] input) e
+
+  pub turn-are : {next : Job} {used written : ℕ} {left : List ℕ} → answer next used written left ≡ turn t job most input out → (next ≡ tested P .job) × ((drop used input ≡ P .unused) × (take written left ≡ P .text))
+  unfolding turn tested
+  turn-are e = given-is input out (tested P) (part-suffix t job most (length out) [] input) e
+
+-- the rest behind the lines, tested
+pub turn-is : (t : List ℤ) (job : Job) (most : ℕ) (held out : List ℕ) {b : List ℤ} {p q : Progress} {used written : ℕ} {left : List ℕ} → used ≤ length held
+    → answer (kept b p) used written left ≡ lines t job most held out → q ≡ overlong (take (length held - used) (drop used held)) p → answer (kept b q) used written left ≡ turn t job most held out
+unfolding lines turn tested given
+turn-is t job most held out {b} {p} {q} {used} {written} {left} h e g =
+    let P : Part = part t job most (length out) [] held in
+    let f = lines-are t job most held out e in
+    let n : length (drop used held) ≤ length held - used = rw length-drop (omega arith) in
+    let u : take (length held - used) (drop used held) ≡ P .unused = take-all (length held - used) (drop used held) n ∙ f .1 .0 in
+    let i : p ≡ P .job .progress = ap (λ (j : Job). j .progress) (f .0) in
+    let k : b ≡ P .job .block = ap (λ (j : Job). j .block) (f .0) in
+    let hu : used ≡ length held - length (P .unused) = cc in
+    let hw : written ≡ length (P .text) = cc in
+    let hl : left ≡ over (P .text) out = cc in
+    rw (g, u, i, k, hu, hw, hl)
 
 -- ---- the other functions, by the tests of their code
 

@@ -5,7 +5,7 @@ ghost use lib.ListN.{length};
 ghost use lib.Seq.{slice};
 ghost use Rattle.line_step.specs.Step.{kept};
 ghost use Rattle.call.specs.Call.{start, last-form};
-ghost use Rattle.call.specs.Chunk.{Answer, goes-on, lines, overlong, Begun, begin};
+ghost use Rattle.call.specs.Chunk.{Answer, goes-on, lines, overlong, turn, Begun, begin};
 ghost use Rattle.print.specs.Print.{over, form-room};
 use line::LONGEST;
 use line_step::Progress;
@@ -97,6 +97,26 @@ pub fn overlong(job: Progress, held: &[u8]) -> Progress
         return line_step::with_code(job, 9);
     }
     job
+}
+
+// A turn of a program: whole lines of the bytes held, as `lines` takes them; what is left behind them is refused where it is overlong.
+pub fn turn(
+    t: &[i16],
+    b: &mut [i16],
+    from: Progress,
+    most: u32,
+    held: &[u8],
+    out: &mut [u8],
+) -> Taken
+    ensures { λ r. ⌜ Answer.answer (kept (now (b .exit)) (r .job)) (r .used) (r .written) (now (out .exit)) ≡ turn (now (t .entry)) (kept (now (b .entry)) from) most (now (held .entry)) (now (out .entry)) ⌝ }
+    ensures { λ r. ⌜ (r .used ≤ length (now (held .entry))) × (r .written ≤ length (now (out .entry))) ⌝ }
+{
+    let taken = lines(t, b, from, most, held, out);
+    let used = taken.used;
+    let written = taken.written;
+    let next = taken.job;
+    let job = overlong(next, &held[used..]);
+    Taken { job, used, written }
 }
 
 // The last form of a call, where `held` are the bytes behind its last line feed: its total, or its refusal. Answers its length; the bytes behind it are as they were.

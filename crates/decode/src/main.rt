@@ -2,14 +2,18 @@
 // output. What is printed is `output` of call.specs.Call; no contract can say what is read or written, so the work is done by crate call on slices.
 ghost use Prim.Native.Nat.{_≤_, _<_};
 ghost use lib.ListN.{length};
-use count::Counted;
-use count::Counts;
+ghost use Rattle.print.specs.Print.{form-room};
 use libc::STDIN_FILENO;
 use libc::STDOUT_FILENO;
+use line_step::Progress;
+use print::FORM_ROOM;
 
-// Where the program is: the counts and the code, the bytes of the input buffer that are not used yet, and whether it goes on.
+// As many lines or turns as there can be.
+const MOST: u32 = 4294967295;
+
+// Where the program is: how far the call is, the bytes of the input buffer that are not used yet, and whether it goes on.
 struct Place {
-    job: Counted,
+    job: Progress,
     from: usize,
     to: usize,
     more: bool,
@@ -27,8 +31,8 @@ fn write(text: &[u8]) -> bool {
 }
 
 // Writes the front of a last form.
-fn write_form(form: &[u8; 46], n: usize) -> bool
-    requires { ⌜ n ≤ 46 ⌝ }
+fn write_form(form: &[u8; FORM_ROOM], n: usize) -> bool
+    requires { ⌜ n ≤ form-room ⌝ }
 {
     let text: &[u8] = form;
     write(&text[0..n])
@@ -44,7 +48,7 @@ fn good_read(answer: isize) -> bool {
 }
 
 // Reads on behind the bytes that are kept. Nothing goes on behind a read that failed.
-fn read(job: Counted, from: usize, to: usize, input: &mut [u8]) -> Place
+fn read(job: Progress, from: usize, to: usize, input: &mut [u8]) -> Place
     ensures { λ r. ⌜ (r .from ≤ r .to) × (r .to ≤ length (now (input .entry))) ⌝ }
 {
     let kept = call::keep(input, from, to);
@@ -68,19 +72,17 @@ fn turn(t: &[i16], b: &mut [i16], p: Place, input: &mut [u8], out: &mut [u8]) ->
     let from = p.from;
     let to = p.to;
     let job = p.job;
-    let taken = call::lines(t, b, job, &input[from..to], out);
+    let taken = call::turn(t, b, job, MOST, &input[from..to], out);
     let next = taken.job;
     let at = from + taken.used;
     let written = taken.written;
     let good = write(&out[0..written]);
-    let code = call::overlong(next.code, &input[at..to]);
-    let counts = next.counts;
-    let more = good && code == 0;
+    let more = good && next.code == 0;
     if more && written == 0 {
         return read(next, at, to, input);
     }
     Place {
-        job: Counted { code, counts },
+        job: next,
         from: at,
         to,
         more,
@@ -104,29 +106,26 @@ fn end(p: Place, input: &[u8])
         let from = p.from;
         let to = p.to;
         let job = p.job;
-        let mut form = [0u8; 46];
+        let mut form = [0u8; FORM_ROOM];
         let n = call::finish(job, &input[from..to], &mut form);
         write_form(&form, n);
     }
 }
 
-// All lines of a call. Each turn takes a line (360,001 at most) or reads at least one byte (37 at most without a line feed), so there are fewer turns than 2^32.
+// All lines of a call. Each turn takes a line, of which Count limits the number, or reads at least one byte, of which a line has a few, so there are fewer turns than MOST.
 fn decode(t: &[i16], b: &mut [i16]) {
     let mut input_buffer = io::large_buffer();
     let mut out_buffer = io::large_buffer();
     let input: &mut [u8] = &mut input_buffer;
     let out: &mut [u8] = &mut out_buffer;
     let mut p = Place {
-        job: Counted {
-            code: 0,
-            counts: Counts { frames: 0, lost: 0 },
-        },
+        job: call::start(),
         from: 0,
         to: 0,
         more: true,
         good: true,
     };
-    let mut most: u32 = 4294967295;
+    let mut most: u32 = MOST;
     while 0 < most {
         p = turn(t, b, p, input, out);
         most = rest(most, p.more);
@@ -160,7 +159,7 @@ fn main() {
         decode(&t, &mut b);
         return;
     }
-    let mut form = [0u8; 46];
+    let mut form = [0u8; FORM_ROOM];
     let length = print::refused(code, 0, &mut form);
     write_form(&form, length);
 }

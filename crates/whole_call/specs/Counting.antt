@@ -1,5 +1,6 @@
 -- What a line does to the progress of a call (01, Line and Count): a line that is taken is one line and one frame more, one that is refused leaves lines and counts as they were. Assumes nothing.
 use mathlib.Core.Path.{_≡_, refl, _∙_}
+use mathlib.Core.Bool.{true}
 use mathlib.Core.List.{List}
 use Prim.Native.Nat.{ℕ, _+_, _≤_, _<_}
 use native.Mathlib.Omega.{arith}
@@ -7,8 +8,8 @@ use lib.IntN.{ℤ}
 use borrow.Author.Tests.{lt-ltb}
 use Rattle.count.specs.declared.Counts.{Counts}
 use Rattle.count.specs.declared.Counted.the-variants.{Done}
-use Rattle.count.specs.Count.{most, no-counts, count}
-use Rattle.count.specs.Laws as Count
+use Rattle.count.specs.Count.{most, count, frames-are}
+use Rattle.count.specs.Laws.{frames-none, frames-more}
 use Rattle.decoder.specs.Call as Frame
 use Rattle.line_step.specs.declared.Progress.{Progress}
 use Rattle.line_step.specs.Step.{Job, Step, one-more, with-code, stop, done, line-step}
@@ -43,15 +44,15 @@ next-line n h = rw (lt-ltb n 4294967295 h)
 
 -- so from a call's start on the frames are the lines, and none is the last number
 pub record Lined (p : Progress) : Type 0 where
-  pub frames : p .counts .frames ≡ p .lines
+  pub frames : frames-are (p .lines) (p .counts) ≡ true
   pub few : p .lines ≤ most
 
 pub lined-start : Lined start
-unfolding start no-counts
-lined-start = record { frames = refl; few = omega arith }
+unfolding start
+lined-start = record { frames = frames-none; few = omega arith }
 
 pub lined-more : (p q : Progress) → Lined p → More p q → (q .lines ≡ p .lines + 1) × Lined q
 lined-more p q l m =
-    let c = Count.more (m .kind) (p .counts) (q .counts) (m .frame) in
-    let e : q .lines ≡ p .lines + 1 = m .line ∙ next-line (p .lines) (omega (arith, l .few)) in
-    (e, record { frames = omega (arith, l .frames); few = omega (arith, l .frames) })
+    let c = frames-more (m .kind) (p .lines) (p .counts) (q .counts) (m .frame) (l .frames) in
+    let e : q .lines ≡ p .lines + 1 = m .line ∙ next-line (p .lines) (omega arith) in
+    (e, record { frames = rw e (c .0); few = omega arith })

@@ -5,6 +5,7 @@ use mathlib.Core.Bool.{Bool, true, false, cond, _||_}
 use mathlib.Core.List.{List, [], _∷_, _++_, append-assoc, append-nil}
 use Prim.Native.Nat.{ℕ, _+_, _≤_, _<_}
 use native.Mathlib.Omega.{arith}
+use native.Mathlib.Nat.{add-zero}
 use lib.Dec.{eqb}
 use lib.IntN.{ℤ, pos}
 use lib.Signed.{ltZ}
@@ -12,6 +13,7 @@ use lib.ListN.{length, length-append}
 use lib.Seq.{append-snoc}
 use borrow.Author.Tests.{eq-eqb, ne-eqb, eqb-true, eqb-false}
 use Rattle.count.specs.declared.Counts.{Counts}
+use Rattle.count.specs.Count.{frames-are}
 use Rattle.print.specs.Print.{total, refused}
 use Rattle.tables.specs.Layout.{table-check, scalar}
 use Rattle.tables.specs.declared.Scalar.the-variants.{InitialPreviousPitchDelay}
@@ -39,7 +41,7 @@ ended p (b ∷ l) = ended (eqb b 10) l
 -- how all that is printed of a text behind n lines ends; what stands before the last form is `printed`'s to say
 pub data Ending (n : ℕ) (text out : List ℕ) : Type 0 where
   -- of whole lines: the total, with as many frames as there are lines
-  with-total : (samples : List ℕ) (c : Counts) → ended true text ≡ true → c .frames ≡ n + feeds text → out ≡ samples ++ total c → Ending n text out
+  with-total : (samples : List ℕ) (c : Counts) → ended true text ≡ true → frames-are (n + feeds text) c ≡ true → out ≡ samples ++ total c → Ending n text out
   -- or the refusal, with 9 or 10, of the line that stands behind some whole lines
   with-refusal : (samples before rest : List ℕ) (code : ℕ) → refuses code ≡ true → text ≡ before ++ rest → ended true before ≡ true → 0 < length rest
       → out ≡ samples ++ refused code (n + feeds before + 1) → Ending n text out
@@ -64,7 +66,8 @@ nothing-ended = refl
 
 line-more : (n m : ℕ) (held text v out : List ℕ) (b : ℕ) → m ≡ n + 1 → to-feed held ≡ length held → eqb b 10 ≡ true → Ending m text out → Ending n (held ++ (b ∷ text)) (v ++ out)
 line-more n m held text v out b hm h e (with-total samples c w k f) =
-    with-total (v ++ samples) c (ended-line true held text b ∙ rw e w) (omega (arith, feeds-line held text b h e)) (rw f (sym (append-assoc v samples _)))
+    let z : m + feeds text ≡ n + feeds (held ++ (b ∷ text)) = omega (arith, feeds-line held text b h e) in
+    with-total (v ++ samples) c (ended-line true held text b ∙ rw e w) (rw z at k) (rw f (sym (append-assoc v samples _)))
 line-more n m held text v out b hm h e (with-refusal samples before rest code z g w l f) =
     let k : m + feeds before ≡ n + feeds (held ++ (b ∷ before)) = omega (arith, feeds-line held before b h e) in
     with-refusal (v ++ samples) (held ++ (b ∷ before)) rest code z (rw g (sym (append-assoc held (b ∷ before) rest))) (ended-line true held before b ∙ rw e w) l
@@ -85,7 +88,7 @@ refused-as-was p q l z e =
 
 open-form : (p : Progress) (held : List ℕ) → Lined p → p .code ≡ 0 → Ending (p .lines) held (last-form p held)
 unfolding last-form feeds ended refuses
-open-form p [] l z = with-total [] (p .counts) refl (omega (arith, l .frames)) (rw (eq-eqb (p .code) 0 z))
+open-form p [] l z = with-total [] (p .counts) refl (rw (add-zero (p .lines)) (l .frames)) (rw (eq-eqb (p .code) 0 z))
 open-form p (b ∷ held) l z =
     with-refusal [] [] (b ∷ held) 9 refl refl refl (omega arith)
     (rw (eq-eqb (p .code) 0 z, ne-eqb (length (b ∷ held)) 0 (λ e. omega arith), next-line (p .lines) (omega (arith, l .few))) (ap (λ (n : ℕ). refused 9 n) (omega arith)))

@@ -20,8 +20,8 @@ use Rattle.words.specs.Words.{words}
 use Rattle.line_step.specs.Step.{Job, Step, kept, with-code, stop, line-step}
 use Rattle.line_step.specs.Laws.{by-line}
 use Rattle.call.specs.Call.{line-number, last-form, printed, start, fresh-job, file-check, output}
-use Rattle.call.specs.Chunk.{Part, none, behind, goes-on, part, answer, given, lines, to-feed, overlong, begun, with-state, begin}
-use Rattle.call.specs.Laws.{going}
+use Rattle.call.specs.Chunk.{Part, none, behind, goes-on, part, answer, given, lines, to-feed, overlong, tested, turn, begun, with-state, begin}
+use Rattle.call.specs.Laws.{going, lines-are, turn-are}
 
 -- ---- what is done with a call, in any order, and what is then held
 
@@ -127,48 +127,6 @@ part-made t job most room held (b ∷ l) rest h =
     by true false e g f k = rw (e, g, going-code job most room e) (k g)
     by false q e g f k = rw (e, append-assoc held (b ∷ l) rest) (again t job [] held ((b ∷ l) ++ rest) h)
 
--- the bytes behind a part's lines are the end of the part
-suffix-more : (a l u : List ℕ) → length u ≤ length l → drop (length l - length u) l ≡ u → drop (length (a ++ l) - length u) (a ++ l) ≡ u
-suffix-more a l u h e =
-    let n : length (a ++ l) - length u ≡ length a + (length l - length u) = rw length-append (omega arith) in
-    rw (n, drop-append-add a l (length l - length u)) e
-
-abbrev Suffix : List ℕ → List ℕ → Type 0
-Suffix u l = (length u ≤ length l) × (drop (length l - length u) l ≡ u)
-
-suffix-self : (l : List ℕ) → Suffix l l
-suffix-self l = (omega arith, rw (sub-self (length l)))
-
-suffix-behind : (a l u : List ℕ) → Suffix u l → Suffix u (a ++ l)
-suffix-behind a l u h = (rw length-append (omega arith), suffix-more a l u (h .0) (h .1))
-
-part-suffix : (t : List ℤ) (job : Job) (most room : ℕ) (held l : List ℕ) → Suffix (part t job most room held l .unused) (held ++ l)
-unfolding part none behind
-part-suffix t job most room held [] = rw append-nil (suffix-self held)
-part-suffix t job most room held (b ∷ l) =
-    by (goes-on (job .progress) most room) (eqb b 10) refl refl (part-suffix t (s .job) (most - 1) (room - length (s .text)) [] l) (part-suffix t job most room (held ++ (b ∷ [])) l)
-  where
-    s : Step
-    s = line-step t job held
-
-    by : (p q : Bool) → goes-on (job .progress) most room ≡ p → eqb b 10 ≡ q → Suffix (part t (s .job) (most - 1) (room - length (s .text)) [] l .unused) l
-        → Suffix (part t job most room (held ++ (b ∷ [])) l .unused) ((held ++ (b ∷ [])) ++ l) → Suffix (part t job most room held (b ∷ l) .unused) (held ++ (b ∷ l))
-    by true true e g f k = rw (e, g, ← append-snoc held b l) (suffix-behind (held ++ (b ∷ [])) l _ f)
-    by true false e g f k = rw (e, g, ← append-snoc held b l) k
-    by false q e g f k = rw e (suffix-self (held ++ (b ∷ l)))
-
--- what `lines` promises of its answer and the lent output, in terms of the part
-lines-are : (t : List ℤ) (job : Job) (most : ℕ) (input out : List ℕ) {next : Job} {used written : ℕ} {left : List ℕ} → answer next used written left ≡ lines t job most input out
-    → (next ≡ part t job most (length out) [] input .job) × ((drop used input ≡ part t job most (length out) [] input .unused) × (take written left ≡ part t job most (length out) [] input .text))
-unfolding lines given over
-lines-are t job most input out {next} {used} {written} {left} e =
-    let p : Part = part t job most (length out) [] input in
-    let hn : next ≡ p .job = cc in
-    let hu : used ≡ length input - length (p .unused) = cc in
-    let hw : written ≡ length (p .text) = cc in
-    let hl : left ≡ p .text ++ drop (length (p .text)) out = cc in
-    (hn, (rw hu (part-suffix t job most (length out) [] input .1), rw (hw, hl) (take-append-seam (p .text) (drop (length (p .text)) out))))
-
 -- so reads compose: what it wrote, and what is printed of the bytes that it did not use, is what is printed of all
 pub lines-made : (t : List ℤ) (job : Job) (most : ℕ) (input out : List ℕ) {next : Job} {used written : ℕ} {left : List ℕ} → answer next used written left ≡ lines t job most input out → (rest : List ℕ)
     → printed t job [] (input ++ rest) ≡ take written left ++ printed t next [] (drop used input ++ rest)
@@ -182,6 +140,14 @@ pub lines-act : (t : List ℤ) (h : Held) (most : ℕ) (out : List ℕ) {next : 
 unfolding act
 lines-act t h most out e =
     let f = lines-are t (h .job) most (h .bytes) out e in
+    rw (f .0, f .1 .0, f .1 .1)
+
+-- a call of `turn` is that act and `test-overlong`
+pub turn-acts : (t : List ℤ) (h : Held) (most : ℕ) (out : List ℕ) {next : Job} {used written : ℕ} {left : List ℕ} → answer next used written left ≡ turn t (h .job) most (h .bytes) out
+    → acts t (take-lines most (length out) ∷ test-overlong ∷ []) h ≡ record { job = next; bytes = drop used (h .bytes); written = h .written ++ take written left }
+unfolding acts act tested
+turn-acts t h most out e =
+    let f = turn-are t (h .job) most (h .bytes) out e in
     rw (f .0, f .1 .0, f .1 .1)
 
 -- ---- an overlong line

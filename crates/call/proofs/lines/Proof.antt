@@ -5,7 +5,7 @@ use native.Mathlib.Omega.{arith}
 use lib.ListN.{length, length-take, length-drop}
 use denote.Ref.{now}
 use borrow.Author.Needs.{needs}
-use Rattle.call.specs.Laws.{So-far, so-far-none, going, found, text-within, lines-done, lines-open, turn}
+use Rattle.call.specs.Laws.{So-far, so-far-none, going, found, text-within, lines-done, lines-open, line-taken}
 use Rattle.call.proofs.lines.Statement.{statement}
 use Rattle.call.proofs.lines.Tie as tie
 
@@ -76,7 +76,7 @@ loop-again c =
     let k = e .before in
     let g = k .before in
     let l = g .before .before in
-    turn _ _ _ _ _ _ _ _ _ _ _ _ (l .loop .inv) (sym (g .before .goes-on .ensures) ∙ g .if1 .taken) (k .find .result) (found _ _ (k .find .ensures .0)) (e .if2 .left) (k .find .ensures .1)
+    line-taken _ _ _ _ _ _ _ _ _ _ _ _ (l .loop .inv) (sym (g .before .goes-on .ensures) ∙ g .if1 .taken) (k .find .result) (found _ _ (k .find .ensures .0)) (e .if2 .left) (k .find .ensures .1)
     _ (z .line-step .ensures .0) (search needs) (y .copy .ensures .1)
 
 returns-2 : tie.Need-returns-2 Inv-loop μ-loop
