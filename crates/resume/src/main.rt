@@ -57,6 +57,11 @@ fn finish(job: Progress, held: &[u8], at: u64, out: i32, name: &[u8]) {
     put_last(&form, n, at, out, name);
 }
 
+// The line at the place is refused.
+fn refuse(p: Saved, code: u32, out: i32, name: &[u8]) {
+    finish(job::parts::progress_of(p, code), b"", p.written, out, name);
+}
+
 // No whole line stands at the place: the call ends there, or a line is too long. Answers whether the text goes on behind these bytes.
 fn end(p: Saved, held: &[u8], fds: Fds, name: &[u8]) -> bool {
     let job = call::overlong(job::parts::progress_of(p, 0), held);
@@ -113,8 +118,7 @@ fn step(
     }
     let next = part.place;
     if part.code != 0 {
-        let job = job::parts::progress_of(next, part.code);
-        finish(job, b"", next.written, fds.out, name);
+        refuse(next, part.code, fds.out, name);
         return stopped(place, most);
     }
     if written == 0 {

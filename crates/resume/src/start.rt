@@ -130,6 +130,11 @@ fn read_more(fd: i32, at: u64, a: Again, input: &mut [u8]) -> Again {
     parts::read_again(a, &input[0..n])
 }
 
+// The same on a whole buffer.
+fn read_turn(fd: i32, at: u64, a: Again, input: &mut [u8; 65536]) -> Again {
+    read_more(fd, at, a, input)
+}
+
 // The bytes of the call that were taken, read again until they are all there or nothing more is read.
 fn taken(fd: i32, at: u64) -> Again {
     let mut input = io::large_buffer();
@@ -137,7 +142,7 @@ fn taken(fd: i32, at: u64) -> Again {
     let mut before = 18446744073709551615u64;
     while a.left < before {
         before = a.left;
-        a = read_more(fd, at, a, &mut input);
+        a = read_turn(fd, at, a, &mut input);
     }
     a
 }

@@ -1,0 +1,17 @@
+-- `resume::start::taken` ends: each turn but the last leaves fewer bytes to read.
+use Prim.Native.Nat.{ℕ}
+use mathlib.Core.Path.{_≡_}
+use borrow.Author.Needs.{needs}
+use Rattle.resume.proofs.start.taken.Statement.{statement}
+use Rattle.resume.proofs.start.taken.Tie as tie
+
+abbrev Inv-loop : tie.InvT-loop
+Inv-loop fd at input₀ a₀ before₀ input a before = _≡_ {A = ℕ} 0 0
+
+abbrev μ-loop : tie.MeasureT-loop
+μ-loop fd at input₀ a₀ before₀ input a before = before
+
+pub taken-spec : {M : Type 1} → statement M
+taken-spec =
+    tie.close
+    (tie.spec Inv-loop μ-loop (λ c κs. search needs) (λ c. search needs) (λ c κs. search needs) (λ c. search needs) (λ c. search needs) (λ c. search needs))
