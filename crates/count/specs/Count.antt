@@ -33,11 +33,6 @@ with-frame kind c = record { frames = c .frames + 1; lost = cond (eqb kind 0) (c
 unfoldable pub count : ℕ → Counts → Counted
 count kind c = cond (known kind) (cond (full c) (Refused 10) (Done (with-frame kind c))) (Refused 5)
 
--- 01's number of each answer
-unfoldable pub code : Counted → ℕ
-code (Refused n) = n
-code (Done c) = 0
-
 -- so many frames are counted
 unfoldable pub frames-are : ℕ → Counts → Bool
 frames-are n c = eqb n (c .frames)

@@ -1,16 +1,14 @@
 -- Laws of the counts: what a frame that is counted adds, and which refusals there are. Assumes nothing.
 use mathlib.Core.Path.{_≡_, refl}
 use mathlib.Core.Bool.{Bool, true, false, cond, _||_, _&&_}
-use mathlib.Core.List.{List, []}
 use Prim.Native.Nat.{ℕ, zero, suc, _+_, _^_, _≤_, _<_, min}
 use native.Mathlib.Omega.{arith}
 use lib.Dec.{eqb, leb}
-use lib.ListN.{length, getD}
+use lib.ListN.{getD}
 use borrow.Author.Tests.{eq-eqb, eqb-true, le-leb, leb-true, leb-false}
 use Rattle.kind.specs.Kind.{known}
 use Rattle.kind.specs.Laws.{low-known}
 use Rattle.count.specs.declared.Counts.{Counts}
-use Rattle.count.specs.declared.Counted.{Counted}
 use Rattle.count.specs.declared.Counted.the-variants.{Refused, Done}
 use Rattle.count.specs.Count.{most, no-counts, full, fits, with-frame, count, frames-are, numbers, of-numbers}
 
@@ -112,10 +110,6 @@ frames-more kind n c d h e =
     (eq-eqb (n + 1) (d .frames) (omega arith), omega arith)
 
 -- ---- as numbers
-
-pub length-numbers : (c : Counts) → length (numbers c) ≡ 2
-unfolding numbers
-length-numbers c = refl
 
 -- counts that fit are numbers of 32 bits, and come back from them
 pub numbers-small : (c : Counts) → fits c ≡ true → (k : ℕ) → getD (numbers c) k 0 < 2 ^ 32

@@ -15,10 +15,10 @@ use Rattle.line.specs.Write as Write
 
 -- ---- Frame: its number, the state block and the samples
 
-pub data Framed : Type 0 where
-  framed : ℕ → List ℤ → List ℤ → Framed
+pub data LentFrame : Type 0 where
+  framed : ℕ → List ℤ → List ℤ → LentFrame
 
-unfoldable pub lend-frame : Frame.Answer → Framed
+unfoldable pub lend-frame : Frame.Answer → LentFrame
 lend-frame a = framed (Frame.number a) (Frame.block a) (Frame.output a)
 
 -- ---- Line and the writing of a line: the number, the kind or the length, and the bytes

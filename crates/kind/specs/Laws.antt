@@ -4,7 +4,7 @@ use mathlib.Core.Bool.{Bool, true, false, cond}
 use Prim.Native.Nat.{ℕ, zero, suc, _≤_}
 use native.Mathlib.Omega.{arith}
 use lib.Dec.{eqb}
-use borrow.Author.Tests.{le-leb, lt-leb, leb-true}
+use borrow.Author.Tests.{le-leb, leb-true}
 use Rattle.kind.specs.Kind.{known, payload-length}
 
 pub known-low : (k : ℕ) → known k ≡ true → k ≤ 3
@@ -12,9 +12,6 @@ known-low k e = leb-true k 3 e
 
 pub low-known : (k : ℕ) → k ≤ 3 → known k ≡ true
 low-known k h = le-leb k 3 h
-
-pub high-unknown : (k : ℕ) → 4 ≤ k → known k ≡ false
-high-unknown k h = lt-leb k 3 h
 
 -- the kinds by number
 pub by-kind : (P : ℕ → Type 0) → P 0 → P 1 → P 2 → P 3 → (k : ℕ) → k ≤ 3 → P k

@@ -71,11 +71,6 @@ payload kind l = bytes (payload-length kind) (drop (length (opening kind)) l)
 pub data Answer : Type 0 where
   answer : Read → List ℕ → Answer
 
--- 01's number of each answer
-unfoldable pub code : Read → ℕ
-code (Refused n) = n
-code (Frame kind) = 0
-
 -- success: the kind, and the payload at the front of the lent bytes
 unfoldable pub took : ℕ → List ℕ → List ℕ → Answer
 took kind l lent = answer (Frame kind) (payload kind l ++ drop (payload-length kind) lent)

@@ -14,11 +14,6 @@ use Rattle.line.specs.declared.Written.the-variants.{Refused, Done}
 pub data Answer : Type 0 where
   answer : Written → List ℕ → Answer
 
--- the number of each answer
-unfoldable pub code : Written → ℕ
-code (Refused n) = n
-code (Done length) = 0
-
 -- 5: kind above 3. 6: the payload has not the length of its kind. 7: the lent bytes are not those of the longest line. A refusal leaves them as they were.
 unfoldable pub write : ℕ → List ℕ → List ℕ → Answer
 write kind l lent =

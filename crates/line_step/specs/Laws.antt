@@ -22,8 +22,8 @@ use Rattle.kind.specs.Kind.{payload-length}
 use Rattle.decoder.specs.declared.Framed.{Framed}
 use Rattle.decoder.specs.Call as Frame
 use Rattle.decoder.specs.Laws.{frame-refused}
-use Rattle.print.specs.Print.{pcm, over, frame-room}
-use Rattle.print.specs.Laws.{pcm-some, pcm-room}
+use Rattle.print.specs.Print.{pcm, over, frame-least, frame-room}
+use Rattle.print.specs.Laws.{pcm-least, pcm-room}
 use Rattle.line_step.specs.declared.Progress.{Progress}
 use Rattle.line_step.specs.Step.{Job, Step, kept, one-more, with-code, stop, done, framed, counted, frame-step, taken, line-step, answer, given}
 
@@ -114,10 +114,10 @@ by-step P t job l f g =
     (λ n h. f n (λ z. omega (arith, refused-some kind n (job .progress .counts) h)))
     (λ next h. by-framed P job next _ (f _) (λ z. g kind _ next h)))
 
--- ---- a line that is done prints something, one that is refused nothing, and none more than has room
+-- ---- a line that is done prints at least the least, one that is refused nothing, and none more than has room
 
 pub record Sized (s : Step) : Type 0 where
-  pub printed : s .job .progress .code ≡ 0 → 0 < length (s .text)
+  pub printed : s .job .progress .code ≡ 0 → frame-least ≤ length (s .text)
   pub silent : (s .job .progress .code ≡ 0 → ⊥) → s .text ≡ []
   pub fits : length (s .text) ≤ frame-room
 
@@ -127,7 +127,7 @@ sized-stop job n h = record { printed = λ e. absurd (h e); silent = λ e. refl;
 
 sized-done : (job : Job) (next : Counts) (a : Frame.Answer) → Sized (done job next a)
 unfolding done
-sized-done job next a = record { printed = λ e. omega (arith, pcm-some (Frame.output a)); silent = λ e. absurd (e refl); fits = pcm-room (Frame.output a) }
+sized-done job next a = record { printed = λ e. pcm-least (Frame.output a); silent = λ e. absurd (e refl); fits = pcm-room (Frame.output a) }
 
 pub sized : (t : List ℤ) (job : Job) (l : List ℕ) → Sized (line-step t job l)
 sized t job l = by-step Sized t job l (sized-stop job) (λ kind payload next e. sized-done job next _)

@@ -20,7 +20,7 @@ use Rattle.laws.specs.Digits.{value, value-digit}
 use Rattle.count.specs.declared.Counts.{Counts}
 use Rattle.text.specs.Text.{ascii, written, Put}
 use Rattle.text.specs.Laws.{then, nothing, one}
-use Rattle.print.specs.Print.{frame-room, form-room, word, words, pcm, digits, decimal, figure, figures, refused, over}
+use Rattle.print.specs.Print.{frame-least, frame-room, form-room, word, words, pcm, digits, decimal, figure, figures, refused, over}
 
 -- ---- what is printed has room
 
@@ -29,13 +29,16 @@ unfolding words word
 length-words zero l = refl
 length-words (suc n) l = rw (length-append, length-words n l) (omega arith)
 
-pub pcm-room : (l : List ℤ) → length (pcm l) ≤ frame-room
+-- 320 digits in `(pcm )` and a line feed
+pub length-pcm : (l : List ℤ) → length (pcm l) ≡ 327
 unfolding pcm
-pcm-room l = simp (length-append, length-words) (omega arith)
+length-pcm l = simp (length-append, length-words) (omega arith)
 
-pub pcm-some : (l : List ℤ) → 0 < length (pcm l)
-unfolding pcm
-pcm-some l = simp (length-append, length-words) (omega arith)
+pub pcm-least : (l : List ℤ) → frame-least ≤ length (pcm l)
+pcm-least l = omega (arith, length-pcm l)
+
+pub pcm-room : (l : List ℤ) → length (pcm l) ≤ frame-room
+pcm-room l = omega (arith, length-pcm l)
 
 -- ---- a printed sample read back
 

@@ -11,7 +11,10 @@ use Rattle.laws.specs.Lists.{at}
 use Rattle.text.specs.Text.{ascii}
 use Rattle.count.specs.declared.Counts.{Counts}
 
--- the longest that is printed for a frame, and the longest last form
+-- the shortest and the longest that is printed for a frame, and the longest last form
+abbrev pub frame-least : ℕ
+frame-least = 327
+
 abbrev pub frame-room : ℕ
 frame-room = 327
 

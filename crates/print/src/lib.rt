@@ -6,13 +6,15 @@ ghost use Rattle.text.specs.Text.{Put};
 ghost use Rattle.print.specs.Print.{frame-room, form-room, word, words, pcm, decimal, figure, figures, total, saved, refused, over};
 use count::Counts;
 
-// The bytes of the longest that is printed for a frame.
+// The bytes of the shortest and of the longest that is printed for a frame.
+pub const FRAME_LEAST: usize = 327;
+
 pub const FRAME_ROOM: usize = 327;
 
 // The bytes of the longest last form.
 pub const FORM_ROOM: usize = 46;
 
-// Each of the private functions below writes at place `from`, and answers the place behind what it wrote.
+// A function that takes a place `from` writes there, and answers the place behind what it wrote.
 
 fn put(part: &[u8], from: usize, out: &mut [u8]) -> usize
     requires { ⌜ from + length (now part) ≤ length (now out) ⌝ }
