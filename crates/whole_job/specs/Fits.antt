@@ -1,12 +1,12 @@
 -- What a part of a call leaves fits a job file (`fits` of Job): a line that is not refused is one frame more, has the bytes of a line, and prints no more than has room; and its state is
 -- accepted. Assumes nothing.
-use mathlib.Core.Path.{_≡_, refl, sym, ap, _∙_}
+use mathlib.Core.Path.{_≡_, refl, ap, _∙_}
 use mathlib.Core.Bool.{Bool, true, false, cond}
 use mathlib.Core.List.{List, [], _∷_, _++_}
-use Prim.Native.Nat.{ℕ, suc, _+_, _-_, _*_, _≤_, _<_}
+use Prim.Native.Nat.{ℕ, suc, _+_, _-_, _*_, _≤_}
 use native.Mathlib.Omega.{arith}
 use native.Mathlib.Nat.{add-zero}
-use borrow.Author.Tests.{ne-eqb, eqb-true, eqb-false, le-leb}
+use borrow.Author.Tests.{eqb-true, eqb-false}
 use lib.Dec.{eqb}
 use lib.IntN.{ℤ}
 use lib.ListN.{length, replicate, length-append}
@@ -23,9 +23,6 @@ use Rattle.call.specs.Laws.{going}
 use Rattle.state.specs.State.{state-check}
 use Rattle.whole_call.specs.Counting.{More, counting, next-line}
 use Rattle.whole_call.specs.Codes.{line-accepted}
-use Rattle.job.specs.declared.Saved.{Saved}
-use Rattle.job.specs.Job.{fits}
-use Rattle.whole_job.specs.Back.{Small}
 
 -- ---- a line
 
