@@ -9,7 +9,7 @@ use lib.Dec.{eqb, leb, ltb}
 use lib.IntN.{ℤ}
 use lib.ListN.{length, getD, take, drop, set, drop-of-length-le, length-append, length-take, length-drop, take-append-drop}
 use lib.Seq.{take-length, take-all, drop-drop, append-snoc, getD-drop, getD-take, take-append-seam, drop-append-add, take-at, drop-at, paste, slice, drop-paste}
-use borrow.Author.Tests.{lt-ltb, le-ltb, le-leb, eq-eqb, ne-eqb, eqb-true, leb-true, ltb-true}
+use borrow.Author.Tests.{lt-ltb, le-ltb, eq-eqb, ne-eqb, eqb-true, leb-true, ltb-true}
 use Rattle.bytes.specs.Bytes as Bytes
 use Rattle.print.specs.Print.{total, refused, over, frame-room, form-room}
 use Rattle.line.specs.Line.{longest}

@@ -1,6 +1,6 @@
 -- With an accepted table block and an accepted state a line is refused with 9, Line's number, or 10, Count's, alone (01, "The call text and the program"): Frame never refuses it. The
 -- state that a line leaves is accepted too, so this holds of every line of a call. Assumes nothing.
-use mathlib.Core.Path.{_≡_, refl, sym, ap, _∙_}
+use mathlib.Core.Path.{_≡_, refl, _∙_}
 use mathlib.Core.Bool.{Bool, true, _||_}
 use mathlib.Core.List.{List}
 use Prim.Native.Nat.{ℕ, _≤_}
@@ -18,7 +18,7 @@ use Rattle.decoder.specs.Laws.{frame-number}
 use Rattle.accepted.specs.Accepted.{frame-accepted}
 use Rattle.line.specs.Laws.{refused-line, frame-line}
 use Rattle.count.specs.Laws.{refused-full}
-use Rattle.line_step.specs.Step.{Job, Step, with-code, stop, done, line-step}
+use Rattle.line_step.specs.Step.{Job, Step, stop, done, line-step}
 use Rattle.line_step.specs.Laws.{by-line, by-counted, by-framed, by-step}
 
 -- the numbers that refuse a line

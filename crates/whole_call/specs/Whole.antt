@@ -3,24 +3,23 @@
 use mathlib.Core.Path.{_≡_, refl, ap, sym, _∙_}
 use mathlib.Core.Bool.{Bool, true, false, cond, _&&_}
 use mathlib.Core.List.{List, [], _∷_, _++_, append-assoc, append-nil}
-use Prim.Native.Nat.{ℕ, suc, _+_, _-_, _≤_, _<_}
+use Prim.Native.Nat.{ℕ, suc, _-_, _<_}
 use native.Mathlib.Omega.{arith}
-use native.Mathlib.Nat.{sub-self}
-use lib.Dec.{eqb, leb, ltb}
+use lib.Dec.{eqb, ltb}
 use lib.IntN.{ℤ}
 use lib.ListN.{length, take, drop, replicate, length-append, take-append-drop}
-use lib.Seq.{append-snoc, take-append-seam, drop-append-add}
+use lib.Seq.{append-snoc}
 use borrow.Author.Tests.{eq-eqb, ne-eqb, eqb-true, eqb-false, ltb-true}
 use Rattle.line.specs.Line.{longest}
 use Rattle.line.specs.Laws.{refused-line, frame-length}
-use Rattle.print.specs.Print.{refused, over}
+use Rattle.print.specs.Print.{refused}
 use Rattle.state.specs.State as State
 use Rattle.tables.specs.Layout.{table-check}
 use Rattle.words.specs.Words.{words}
 use Rattle.line_step.specs.Step.{Job, Step, kept, with-code, stop, line-step}
 use Rattle.line_step.specs.Laws.{by-line}
 use Rattle.call.specs.Call.{line-number, last-form, printed, start, fresh-job, file-check, output}
-use Rattle.call.specs.Chunk.{Part, none, behind, goes-on, part, answer, given, lines, to-feed, overlong, tested, turn, begun, with-state, begin}
+use Rattle.call.specs.Chunk.{Part, none, behind, goes-on, part, answer, lines, to-feed, overlong, tested, turn, begun, with-state, begin}
 use Rattle.call.specs.Laws.{going, lines-are, turn-are}
 
 -- ---- what is done with a call, in any order, and what is then held

@@ -1,6 +1,5 @@
 -- `call::goes_on` meets its contract: each test picks its case of the definition.
 use native.Mathlib.Omega.{arith}
-use borrow.Author.Needs.{needs}
 use borrow.Author.Tests.{eq-eqb, ne-eqb, lt-ltb, le-ltb}
 use Rattle.call.specs.Chunk.{goes-on}
 use Rattle.call.proofs.goes_on.Statement.{statement}

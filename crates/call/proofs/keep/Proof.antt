@@ -23,18 +23,6 @@ returns c =
 loop-holds : tie.Need-loop-holds Inv-loop μ-loop
 loop-holds c = (search needs, (refl, let s = c .before .before .before .args in paste-zero (s .input .now) 0 (slice (s .from) (s .to) (s .input .now))))
 
-add-input : tie.Need-add-input Inv-loop μ-loop
-add-input c = search needs
-
-slice-read-input : tie.Need-slice-read-input Inv-loop μ-loop
-slice-read-input c = search needs
-
-slice-write-input : tie.Need-slice-write-input Inv-loop μ-loop
-slice-write-input c = search needs
-
-add-i : tie.Need-add-i Inv-loop μ-loop
-add-i c = search needs
-
 loop-again : tie.Need-loop-again Inv-loop μ-loop
 loop-again c =
     let l = c .before .before in
@@ -59,5 +47,5 @@ returns-2 c =
 pub keep-spec : {M : Type 1} → statement M
 keep-spec =
     tie.close
-    (tie.spec Inv-loop μ-loop (λ c κs. search needs) returns (λ c. search needs) loop-holds add-input slice-read-input slice-write-input add-i
-    (λ c. search needs) loop-again (λ c. search needs) returns-2)
+    (tie.spec Inv-loop μ-loop (λ c κs. search needs) returns (λ c. search needs) loop-holds (λ c. search needs) (λ c. search needs)
+    (λ c. search needs) (λ c. search needs) (λ c. search needs) loop-again (λ c. search needs) returns-2)

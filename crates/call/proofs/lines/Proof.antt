@@ -1,9 +1,7 @@
 -- `call::lines` meets its contract: the lines taken, and the lines that the definition takes from what is behind them, are those of the whole.
 use mathlib.Core.Path.{_∙_, sym}
-use Prim.Native.Nat.{_-_}
 use native.Mathlib.Omega.{arith}
-use lib.ListN.{length, length-take, length-drop}
-use denote.Ref.{now}
+use lib.ListN.{length-take, length-drop}
 use borrow.Author.Needs.{needs}
 use Rattle.call.specs.Laws.{So-far, so-far-none, going, found, text-within, lines-done, lines-open, line-taken}
 use Rattle.call.proofs.lines.Statement.{statement}
@@ -92,4 +90,5 @@ lines-spec =
     tie.close
     (tie.spec Inv-loop μ-loop loop-holds sub-goes-on (λ c κs. search needs) find-requires (λ c. search needs) (λ c. search needs) returns
     (λ c. search needs) (λ c. search needs) (λ c. search needs) (λ c κs. search needs) (λ c. search needs) (λ c. search needs) part-copy-end
-    (λ c. search needs) (λ c. search needs) (λ c. search needs) copy-requires sub-left add-used add-written loop-less loop-again (λ c. search needs) (λ c. search needs) returns-2)
+    (λ c. search needs) (λ c. search needs) (λ c. search needs) copy-requires sub-left add-used add-written loop-less loop-again (λ c. search needs)
+    (λ c. search needs) returns-2)

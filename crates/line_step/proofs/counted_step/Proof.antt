@@ -1,6 +1,5 @@
 -- `line_step::counted_step` meets its contract: Frame's number picks its case of the definition.
 use native.Mathlib.Omega.{arith}
-use mathlib.Core.Path.{refl, ap}
 use denote.Ref.{now}
 use borrow.Author.Needs.{needs}
 use Rattle.line_step.specs.Laws.{step-refused, step-done}
