@@ -1,4 +1,4 @@
-/* Holdamek: the six operations of a G.729 voice path as C functions (x86-64 Linux; C99 or later, C++).
+/* Holdamek: the six operations of a G.729 voice path, and the writing of a line, as C functions (x86-64 Linux; C99 or later, C++).
  * `rt staticlib holdamek` makes target/staticlib/libholdamek.a:  cc -Iinclude program.c target/staticlib/libholdamek.a
  *
  * Each function returns 0 or the number of the first refusal that applies, in the order of its list below. A refusal leaves all lent
@@ -10,7 +10,7 @@
  * another length is due, and is right for the payload of HOLDAMEK_NO_TRANSMISSION and HOLDAMEK_ERASED.
  *
  * What no function can notice, and the caller sees to: a pointer with a right length isn't NULL and points to that much memory of its type;
- * `kind`, `frames` and `lost` are never NULL; and what is lent for writing overlaps nothing else that is lent in the same call. */
+ * `kind`, `frames`, `lost` and `length` are never NULL; and what is lent for writing overlaps nothing else that is lent in the same call. */
 #ifndef HOLDAMEK_H
 #define HOLDAMEK_H
 
@@ -28,6 +28,7 @@ enum holdamek_size {
     HOLDAMEK_PAYLOAD_BYTES = 10,      /* bytes of a voice frame, and room for the payload of a line */
     HOLDAMEK_SID_BYTES = 2,           /* bytes of a SID frame */
     HOLDAMEK_FIELDS = 15,             /* fields of a voice frame */
+    HOLDAMEK_SHORTEST_LINE = 14,      /* characters of the shortest line, without its line feed */
     HOLDAMEK_LONGEST_LINE = 36,       /* characters of the longest line, without its line feed */
     HOLDAMEK_MOST_FRAMES = 360000     /* frames of a call at most */
 };
@@ -49,7 +50,7 @@ enum holdamek_refusal {
     HOLDAMEK_STATE_VALUES = 4,        /* in the state block the predictor isn't 0 or 1, or the delay is outside 19..144 */
     HOLDAMEK_KIND_ABOVE_3 = 5,        /* there is no such kind of frame */
     HOLDAMEK_PAYLOAD_LENGTH = 6,      /* the payload isn't 10, 2, 0, 0 bytes for kinds 0 to 3; for fields: not ten bytes */
-    HOLDAMEK_OUTPUT_LENGTH = 7,       /* the output isn't 80 words */
+    HOLDAMEK_OUTPUT_LENGTH = 7,       /* the output isn't 80 words; for the writing of a line: not 36 bytes */
     HOLDAMEK_RECEIVER_LENGTH = 8,     /* the receiver of fields isn't 15 numbers */
     HOLDAMEK_LINE_FORM = 9,           /* the line isn't one of the four forms */
     HOLDAMEK_COUNT_LIMIT = 10,        /* a count is 360,000 or more already */
@@ -74,6 +75,10 @@ uint32_t holdamek_fields(const uint8_t *bytes, size_t bytes_length, uint16_t *fi
  * `(frame (quiet))` or `(frame (lost))`: writes its kind, and its payload to the front of ten bytes, of which the others stay as
  * they were. A text of any length is taken; bytes of a text that has not the length of one of the forms are not read. Refusals 11, 9. */
 uint32_t holdamek_line(const uint8_t *text, size_t text_length, uint32_t *kind, uint8_t *payload, size_t payload_length);
+
+/* Writes the line that holdamek_line reads as this kind and payload, without a line feed, to the front of 36 bytes, of which the others stay
+ * as they were, and the number of its characters to `length`. Refusals 5, 6, 7. */
+uint32_t holdamek_write_line(uint32_t kind, const uint8_t *payload, size_t payload_length, uint8_t *out, size_t out_length, size_t *length);
 
 /* Counts a frame: adds 1 to `frames`, and for kinds 1 to 3 to `lost`. Refusals 5, 10. */
 uint32_t holdamek_count(uint32_t kind, uint32_t *frames, uint32_t *lost);

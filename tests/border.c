@@ -201,6 +201,43 @@ static void of_line(void)
     CHECK(memcmp(p, voice, 10) == 0 && p[10] == 0xee);
 }
 
+static uint32_t write_line(uint32_t kind, size_t p, uint8_t *out, size_t room, size_t *length)
+{
+    return holdamek_write_line(kind, voice, p, out, room, length);
+}
+
+static void of_write_line(void)
+{
+    static const char *const due[] = {"(frame (voice 3ea01d7710df31077994))", "(frame (sid 3ea0))", "(frame (quiet))", "(frame (lost))"};
+    uint8_t out[HOLDAMEK_LONGEST_LINE + 1], before[HOLDAMEK_LONGEST_LINE + 1], p[HOLDAMEK_PAYLOAD_BYTES];
+    size_t n, length = 77;
+    uint32_t kind, read;
+
+    memset(out, 0xee, sizeof out);
+    memcpy(before, out, sizeof out);
+    CHECK(write_line(4, 9, out, 35, &length) == HOLDAMEK_KIND_ABOVE_3);
+    CHECK(write_line(0xffffffffu, 10, out, HOLDAMEK_LONGEST_LINE, &length) == HOLDAMEK_KIND_ABOVE_3);
+    for (kind = 0; kind < 4; kind++) {
+        for (n = 0; n < 12; n++)
+            if (n != payload_length[kind])
+                check(write_line(kind, n, out, 35, &length) == HOLDAMEK_PAYLOAD_LENGTH, "a line of another payload length is refused");
+        for (n = 0; n <= HOLDAMEK_LONGEST_LINE + 1; n++)
+            if (n != HOLDAMEK_LONGEST_LINE)
+                check(write_line(kind, payload_length[kind], out, n, &length) == HOLDAMEK_OUTPUT_LENGTH, "another room for a line is refused");
+    }
+    CHECK(holdamek_write_line(0, NULL, 0, out, HOLDAMEK_LONGEST_LINE, &length) == HOLDAMEK_PAYLOAD_LENGTH);
+    CHECK(holdamek_write_line(3, NULL, 0, NULL, 0, &length) == HOLDAMEK_OUTPUT_LENGTH);
+    CHECK(length == 77 && memcmp(out, before, sizeof out) == 0);
+    for (kind = 0; kind < 4; kind++) {
+        memcpy(out, before, sizeof out);
+        CHECK(write_line(kind, payload_length[kind], out, HOLDAMEK_LONGEST_LINE, &length) == HOLDAMEK_OK);
+        CHECK(length == strlen(due[kind]) && memcmp(out, due[kind], length) == 0);
+        CHECK(memcmp(out + length, before + length, sizeof out - length) == 0);
+        CHECK(holdamek_line(out, length, &read, p, sizeof p) == HOLDAMEK_OK && read == kind && memcmp(p, voice, payload_length[kind]) == 0);
+    }
+    CHECK(holdamek_write_line(2, NULL, 0, out, HOLDAMEK_LONGEST_LINE, &length) == HOLDAMEK_OK && length == 15);
+}
+
 static void of_count(void)
 {
     uint32_t kind, frames = 5, lost = 2;
@@ -234,6 +271,7 @@ int main(void)
     of_frame();
     of_fields();
     of_line();
+    of_write_line();
     of_count();
     CHECK(tables[HOLDAMEK_TABLE_WORDS] == MARK);
     printf("border: %d checks, %d failed\n", checks, failed);

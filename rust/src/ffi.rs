@@ -27,6 +27,14 @@ mod c {
             payload: *mut u8,
             payload_len: usize,
         ) -> u32;
+        pub fn holdamek_write_line(
+            kind: u32,
+            payload: *const u8,
+            payload_len: usize,
+            out: *mut u8,
+            out_len: usize,
+            length: *mut usize,
+        ) -> u32;
         pub fn holdamek_count(kind: u32, frames: *mut u32, lost: *mut u32) -> u32;
     }
 }
@@ -72,6 +80,20 @@ pub fn line(text: &[u8], kind: &mut u32, payload: &mut [u8]) -> u32 {
             kind,
             payload.as_mut_ptr(),
             payload.len(),
+        )
+    }
+}
+
+pub fn write_line(kind: u32, payload: &[u8], out: &mut [u8], length: &mut usize) -> u32 {
+    // SAFETY: see the head of this file.
+    unsafe {
+        c::holdamek_write_line(
+            kind,
+            payload.as_ptr(),
+            payload.len(),
+            out.as_mut_ptr(),
+            out.len(),
+            length,
         )
     }
 }

@@ -2,7 +2,7 @@
 //!
 //! A [`TableBlock`] holds your licensed tables, checked. A [`Decoder`] takes one [`Frame`] after another and gives the 80
 //! samples of each before the postfilter. Its [`StateBlock`] can be saved between any two frames and resumed later, here or on
-//! another machine. [`Frame::parse`] reads a line of a call, and [`Counts`] counts its frames.
+//! another machine. [`Frame::parse`] reads a line of a call, [`Frame::write`] writes it, and [`Counts`] counts its frames.
 //!
 //! ```
 //! use holdamek::{Decoder, Frame, TableBlock};
@@ -156,6 +156,21 @@ impl Frame {
             3 => Ok(Frame::Erased),
             _ => Err(Refusal::Kind),
         }
+    }
+
+    /// Its line of a call, without a line feed, written to the front of `out`.
+    ///
+    /// # Errors
+    /// None: every frame has a line, and no line is longer.
+    pub fn write<'o>(&self, out: &'o mut [u8; LONGEST_LINE]) -> Result<&'o [u8], Refusal> {
+        let mut length = 0;
+        Refusal::check(ffi::write_line(
+            self.kind(),
+            self.payload(),
+            out,
+            &mut length,
+        ))?;
+        out.get(..length).ok_or(Refusal::OutputLength)
     }
 
     /// Its kind, 0 to 3.

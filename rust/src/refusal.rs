@@ -18,7 +18,7 @@ pub enum Refusal {
     Kind,
     /// 6: the payload's length isn't that of its kind, or there are not ten bytes for the fields.
     PayloadLength,
-    /// 7: the output isn't 80 words.
+    /// 7: the output isn't 80 words, or the room for a line isn't 36 bytes.
     OutputLength,
     /// 8: the receiver of the fields isn't 15 numbers.
     ReceiverLength,

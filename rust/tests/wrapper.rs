@@ -1,7 +1,7 @@
 //! The wrapper over the example files: samples, saving and resuming, every refusal that its types leave.
 
 use holdamek::{fields, Counts, Decoder, Frame, Refusal, StateBlock, TableBlock};
-use holdamek::{MOST_FRAMES, STATE_WORDS, TABLE_WORDS};
+use holdamek::{LONGEST_LINE, MOST_FRAMES, STATE_WORDS, TABLE_WORDS};
 
 const TABLES: &[u8] = include_bytes!("../../examples/tables.g729");
 const CALL: &[u8] = include_bytes!("../../examples/call.txt");
@@ -140,6 +140,26 @@ fn lines_are_read() {
         Ok([0, 62, 20, 0, 117, 1, 5904, 13, 7, 9, 17, 239, 3, 1, 4])
     );
     assert_eq!(fields(&[0; 9]), Err(Refusal::PayloadLength));
+}
+
+#[test]
+fn lines_are_written() {
+    for line in CALL.split_inclusive(|b| *b == b'\n') {
+        let line = &line[..line.len() - 1];
+        let frame = Frame::parse(line).unwrap();
+        let mut out = [0x7e; LONGEST_LINE];
+        assert_eq!(frame.write(&mut out), Ok(line));
+        assert_eq!(Frame::parse(&out[..line.len()]), Ok(frame));
+        assert!(out[line.len()..].iter().all(|b| *b == 0x7e));
+    }
+    for frame in [
+        Frame::Sid([0xc0, 0xaa]),
+        Frame::NoTransmission,
+        Frame::Erased,
+    ] {
+        let mut out = [0; LONGEST_LINE];
+        assert_eq!(frame.write(&mut out).and_then(Frame::parse), Ok(frame));
+    }
 }
 
 #[test]

@@ -1,13 +1,50 @@
--- The operation Line (01) with its kind in lent memory, since a C function returns one number: success writes the kind, a refusal leaves it as it was.
+-- The operations whose answer is an enum, as C functions have them: the number is returned, and what is answered beside it goes to lent memory, which a refusal leaves as it was
+-- (01, "Operations and their refusals").
 use Prim.Native.Nat.{ℕ}
-use mathlib.Core.Bool.{cond}
 use mathlib.Core.List.{List}
-use lib.Dec.{eqb}
-use Rattle.line.specs.Line.{Answer, answer, line}
+use lib.IntN.{ℤ}
+use Rattle.decoder.specs.Call as Frame
+use Rattle.count.specs.declared.Counts.{Counts}
+use Rattle.count.specs.declared.Counted.{Counted}
+use Rattle.count.specs.declared.Counted.the-variants as counted
+use Rattle.count.specs.Count.{count}
+use Rattle.line.specs.declared.Read.the-variants as read
+use Rattle.line.specs.declared.Written.the-variants as written
+use Rattle.line.specs.Line as Line
+use Rattle.line.specs.Write as Write
 
-unfoldable pub lend : ℕ → Answer → Answer
-lend before (answer code kind bytes) = answer code (cond (eqb code 0) kind before) bytes
+-- ---- Frame: its number, the state block and the samples
 
--- of a line, the kind as it was, and the ten bytes
-unfoldable pub line-call : List ℕ → ℕ → List ℕ → Answer
-line-call l before lent = lend before (line l lent)
+pub data Framed : Type 0 where
+  framed : ℕ → List ℤ → List ℤ → Framed
+
+unfoldable pub lend-frame : Frame.Answer → Framed
+lend-frame a = framed (Frame.number a) (Frame.block a) (Frame.output a)
+
+-- ---- Line and the writing of a line: the number, the kind or the length, and the bytes
+
+pub data Lent : Type 0 where
+  lent : ℕ → ℕ → List ℕ → Lent
+
+-- of the kind as it was
+unfoldable pub lend-line : ℕ → Line.Answer → Lent
+lend-line before (Line.answer (read.Refused n) bytes) = lent n before bytes
+lend-line before (Line.answer (read.Frame kind) bytes) = lent 0 kind bytes
+
+-- of the length as it was
+unfoldable pub lend-write : ℕ → Write.Answer → Lent
+lend-write before (Write.answer (written.Refused n) bytes) = lent n before bytes
+lend-write before (Write.answer (written.Done length) bytes) = lent 0 length bytes
+
+-- ---- Count: its number and the counts
+
+pub data Counting : Type 0 where
+  counting : ℕ → Counts → Counting
+
+-- of the counts as they were
+unfoldable pub lend-count : Counts → Counted → Counting
+lend-count before (counted.Refused n) = counting n before
+lend-count before (counted.Done c) = counting 0 c
+
+unfoldable pub count-call : ℕ → Counts → Counting
+count-call kind c = lend-count c (count kind c)

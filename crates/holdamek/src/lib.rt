@@ -1,14 +1,14 @@
-// The six operations of 01 for other languages: C functions over pointers and lengths, each the proved function of its crate.
+// The operations of 01 for other languages, and the writing of a line: C functions over pointers and lengths, each the proved function of its crate.
 // A slice is a pointer and then a length in elements. Each returns 0 or the number of its refusal, which leaves all lent memory as it
 // was; what it answers beside its number goes to lent memory. include/holdamek.h says the same for C.
 ghost use mathlib.Core.Path.{_≡_};
 ghost use Rattle.tables.specs.Layout.{table-check};
 ghost use Rattle.bitstream.specs.Fields as fields;
 ghost use Rattle.state.specs.State as state;
-ghost use Rattle.decoder.specs.Call as call;
-ghost use Rattle.line.specs.Line as line-spec;
-ghost use Rattle.count.specs.Count as count-spec;
-ghost use Rattle.holdamek.specs.Lent.{line-call};
+ghost use Rattle.decoder.specs.Call.{frame};
+ghost use Rattle.line.specs.Line.{line};
+ghost use Rattle.line.specs.Write.{write};
+ghost use Rattle.holdamek.specs.Lent.{framed, lend-frame, lent, lend-line, lend-write, counting, count-call};
 
 #[no_mangle]
 pub extern "C" fn holdamek_table_check(t: &[i16]) -> u32
@@ -39,36 +39,64 @@ pub extern "C" fn holdamek_frame(
     payload: &[u8],
     out: &mut [i16],
 ) -> u32
-    ensures { λ r. ⌜ call.answer r (now (b .exit)) (now (out .exit)) ≡ call.frame (now (t .entry)) (now (b .entry)) kind (now (payload .entry)) (now (out .entry)) ⌝ }
+    ensures { λ r. ⌜ framed r (now (b .exit)) (now (out .exit)) ≡ lend-frame (frame (now (t .entry)) (now (b .entry)) kind (now (payload .entry)) (now (out .entry))) ⌝ }
 {
-    decoder::frame(t, b, kind, payload, out)
+    decoder::code(decoder::frame(t, b, kind, payload, out))
 }
 
 // The kind goes to `kind`, the payload to the front of `payload`.
 #[no_mangle]
 pub extern "C" fn holdamek_line(text: &[u8], kind: &mut u32, payload: &mut [u8]) -> u32
-    ensures { λ r. ⌜ line-spec.answer r (now (kind .exit)) (now (payload .exit)) ≡ line-call (now (text .entry)) (now (kind .entry)) (now (payload .entry)) ⌝ }
+    ensures { λ r. ⌜ lent r (now (kind .exit)) (now (payload .exit)) ≡ lend-line (now (kind .entry)) (line (now (text .entry)) (now (payload .entry))) ⌝ }
 {
-    let read = line::line(text, payload);
-    if read.code == 0 {
-        *kind = read.kind;
+    let answer = line::line(text, payload);
+    match answer {
+        line::Read::Refused(n) => n,
+        line::Read::Frame(k) => {
+            *kind = k;
+            0
+        }
     }
-    read.code
+}
+
+// The line goes to the front of `out`, its length to `length`.
+#[no_mangle]
+pub extern "C" fn holdamek_write_line(
+    kind: u32,
+    payload: &[u8],
+    out: &mut [u8],
+    length: &mut usize,
+) -> u32
+    ensures { λ r. ⌜ lent r (now (length .exit)) (now (out .exit)) ≡ lend-write (now (length .entry)) (write kind (now (payload .entry)) (now (out .entry))) ⌝ }
+{
+    let answer = line::write(kind, payload, out);
+    match answer {
+        line::Written::Refused(n) => n,
+        line::Written::Done(n) => {
+            *length = n;
+            0
+        }
+    }
 }
 
 // The counts of a call, its frames and those of them that are concealed, with a frame of this kind in them.
 #[no_mangle]
 pub extern "C" fn holdamek_count(kind: u32, frames: &mut u32, lost: &mut u32) -> u32
-    ensures { λ r. ⌜ record { code = r; counts = record { frames = now (frames .exit); lost = now (lost .exit) } } ≡ count-spec.count kind (record { frames = now (frames .entry); lost = now (lost .entry) }) ⌝ }
+    ensures { λ r. ⌜ counting r (record { frames = now (frames .exit); lost = now (lost .exit) }) ≡ count-call kind (record { frames = now (frames .entry); lost = now (lost .entry) }) ⌝ }
 {
-    let counted = count::count(
+    let answer = count::count(
         kind,
         count::Counts {
             frames: *frames,
             lost: *lost,
         },
     );
-    *frames = counted.counts.frames;
-    *lost = counted.counts.lost;
-    counted.code
+    match answer {
+        count::Counted::Refused(n) => n,
+        count::Counted::Done(c) => {
+            *frames = c.frames;
+            *lost = c.lost;
+            0
+        }
+    }
 }

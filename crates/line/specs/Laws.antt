@@ -127,9 +127,6 @@ pub none-digits : (l : List ℕ) → all-digits (take 0 l) ≡ true
 unfolding all-digits
 none-digits l = refl
 
-pub digits-end : (l : List ℕ) (i n : ℕ) → all-digits (take i l) ≡ true → i ≡ n → all-digits (take n l) ≡ true
-digits-end l i n e h = rw h at e
-
 bytes-more : (n : ℕ) (l : List ℕ) → bytes (suc n) l ≡ bytes n l ++ ((16 * value (getD l (2 * n) 0) + value (getD l (2 * n + 1) 0)) ∷ [])
 unfolding bytes
 bytes-more zero l = refl
@@ -147,9 +144,6 @@ put-more l lent out n v h e g =
 pub put-none : (l lent : List ℕ) → lent ≡ bytes 0 l ++ drop 0 lent
 unfolding bytes
 put-none l lent = refl
-
-pub put-end : (l lent out : List ℕ) (i n : ℕ) → out ≡ bytes i l ++ drop i lent → i ≡ n → out ≡ bytes n l ++ drop n lent
-put-end l lent out i n e h = rw h at e
 
 -- a byte as the code makes it
 pub paired : (t : List ℕ) (from i a b : ℕ) → a ≡ value (getD t (from + 2 * i) 0) → b ≡ value (getD t (from + (2 * i + 1)) 0)

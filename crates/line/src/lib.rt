@@ -10,9 +10,10 @@ ghost use Rattle.line.specs.Line.{longest, pair, hex, form, text, bytes,
 ghost use Rattle.line.specs.Write as writing;
 ghost use Rattle.line.specs.Laws.{all-digits};
 
-// Bytes of the shortest and of the longest line.
+// The bytes of the shortest line.
 pub const SHORTEST: usize = 14;
 
+// The bytes of the longest line.
 pub const LONGEST: usize = 36;
 
 // An answer of Line: the number of its refusal, or the kind of frame.

@@ -6,9 +6,10 @@ ghost use Rattle.text.specs.Text.{Put};
 ghost use Rattle.print.specs.Print.{frame-room, form-room, word, words, pcm, decimal, figure, figures, total, saved, refused, over};
 use count::Counts;
 
-// The longest that is printed for a frame, and the longest last form.
+// The bytes of the longest that is printed for a frame.
 pub const FRAME_ROOM: usize = 327;
 
+// The bytes of the longest last form.
 pub const FORM_ROOM: usize = 46;
 
 // Each of the private functions below writes at place `from`, and answers the place behind what it wrote.

@@ -6,7 +6,7 @@ use native.Mathlib.Omega.{arith}
 use lib.ListN.{take, drop}
 use borrow.Author.Needs.{needs}
 use borrow.Author.Tests.{not-true, not-false}
-use Rattle.line.specs.Laws.{all-digits, digit-more, digit-not, none-digits, digits-end}
+use Rattle.line.specs.Laws.{all-digits, digit-more, digit-not, none-digits}
 use Rattle.line.proofs.digits.Statement.{statement}
 use Rattle.line.proofs.digits.Tie as tie
 
@@ -34,7 +34,8 @@ returns-2 : tie.Need-returns-2 Inv-loop μ-loop
 returns-2 c =
     let l = c .before in
     let s = l .before .before .args in
-    sym (digits-end (drop (s .from) (s .text .now)) (l .loop .i) (s .n) (l .loop .inv .1) (omega arith))
+    let h : l .loop .i ≡ s .n = omega arith in
+    sym (rw h at (l .loop .inv .1))
 
 pub digits-spec : {M : Type 1} → statement M
 digits-spec =

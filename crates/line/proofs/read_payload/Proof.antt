@@ -6,7 +6,7 @@ use native.Mathlib.Omega.{arith}
 use lib.ListN.{length, drop, length-set}
 use borrow.Author.Needs.{needs}
 use Rattle.line.specs.Line.{bytes}
-use Rattle.line.specs.Laws.{put-none, put-more, put-end, paired}
+use Rattle.line.specs.Laws.{put-none, put-more, paired}
 use Rattle.line.proofs.read_payload.Statement.{statement}
 use Rattle.line.proofs.read_payload.Tie as tie
 
@@ -32,7 +32,8 @@ returns : tie.Need-returns Inv-loop μ-loop
 returns c =
     let l = c .before in
     let s = l .before .before .before .args in
-    put-end (drop (s .from) (s .text .now)) (s .payload .now) (l .loop .payload) (l .loop .i) (s .n) (l .loop .inv .1 .1) (omega arith)
+    let h : l .loop .i ≡ s .n = omega arith in
+    rw h at (l .loop .inv .1 .1)
 
 pub read-payload-spec : {M : Type 1} → statement M
 read-payload-spec =
