@@ -2,7 +2,7 @@
 -- and the state block"), the counts, and the CRC-32 of all these.
 use mathlib.Core.Bool.{Bool, cond, _&&_}
 use mathlib.Core.List.{List, [], _∷_, _++_}
-use Prim.Native.Nat.{ℕ, _+_, _*_}
+use Prim.Native.Nat.{ℕ, _+_, _-_, _*_}
 use lib.Dec.{eqb, leb}
 use lib.IntN.{ℤ}
 use lib.ListN.{length, take, drop, getD}
@@ -30,6 +30,19 @@ tag = 1263354952
 -- raised whenever a field gets another meaning
 abbrev pub version : ℕ
 version = 1
+
+-- where the state, the counts and the check sum begin, and how long the file is
+abbrev pub state-at : ℕ
+state-at = 36
+
+abbrev pub counts-at : ℕ
+counts-at = state-at + 468
+
+abbrev pub sum-at : ℕ
+sum-at = counts-at + 8
+
+abbrev pub file-length : ℕ
+file-length = sum-at + 4
 
 -- the head, a row for each number: how many bytes it has, and what it is
 unfoldable pub widths : List ℕ
@@ -59,10 +72,10 @@ unfoldable pub fields : List ℕ → List ℕ
 fields f = numbers widths f
 
 unfoldable pub block : List ℕ → List ℤ
-block f = words (take 468 (drop 36 f))
+block f = words (take (counts-at - state-at) (drop state-at f))
 
 unfoldable pub counts : List ℕ → Counts
-counts f = Count.of-numbers (numbers count-widths (take 8 (drop 504 f)))
+counts f = Count.of-numbers (numbers count-widths (take (sum-at - counts-at) (drop counts-at f)))
 
 unfoldable pub place : List ℕ → Saved
 place f =
@@ -77,7 +90,7 @@ place f =
 
 -- the check sum is that of the bytes before it
 unfoldable pub sum-fits : List ℕ → Bool
-sum-fits f = eqb (number (take 4 (drop 512 f))) (crc32 (take 512 f))
+sum-fits f = eqb (number (take 4 (drop sum-at f))) (crc32 (take sum-at f))
 
 -- the file is of this form and version
 unfoldable pub known : List ℕ → Bool
@@ -94,7 +107,7 @@ fits p =
 -- these tables.
 unfoldable pub check : List ℕ → ℕ → ℕ
 check f tables =
-    cond (eqb (length f) 516)
+    cond (eqb (length f) file-length)
     (cond (sum-fits f)
     (cond (known f)
     (cond (fits (place f))

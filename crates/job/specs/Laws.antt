@@ -21,7 +21,7 @@ use Rattle.job.specs.declared.Saved.{Saved}
 use Rattle.job.specs.declared.Found.the-variants.{Refused, Job}
 use Rattle.job.specs.Names.{new, aside, folder}
 use Rattle.job.specs.Names as Names
-use Rattle.job.specs.Job.{widths, head, count-widths, state-and-counts, body, pack, block, place, sum-fits, known, fits, check, answer, read}
+use Rattle.job.specs.Job.{state-at, counts-at, sum-at, file-length, widths, head, count-widths, state-and-counts, body, pack, block, place, sum-fits, known, fits, check, answer, read}
 
 -- ---- written
 
@@ -39,32 +39,32 @@ front-numbers l v r ws vs a e h k n t g =
     let f : v ≡ numbers-bytes ws vs = g ∙ put-whole ws vs _ n m in
     front l v r a e h k (ap length f ∙ length-numbers-bytes ws vs n ∙ t) ∙ rw f
 
-pub front-sum : (l v r : List ℕ) (s : ℕ) → 516 ≤ length l → s ≡ crc32 (take 512 l) → v ≡ number-bytes (length (take 4 (drop 512 l))) s
-    → take 516 (take 512 l ++ (v ++ r)) ≡ take 512 l ++ number-bytes 4 (crc32 (take 512 l))
+pub front-sum : (l v r : List ℕ) (s : ℕ) → file-length ≤ length l → s ≡ crc32 (take sum-at l) → v ≡ number-bytes (length (take 4 (drop sum-at l))) s
+    → take file-length (take sum-at l ++ (v ++ r)) ≡ take sum-at l ++ number-bytes 4 (crc32 (take sum-at l))
 front-sum l v r s h e g =
-    let m : length (take 4 (drop 512 l)) ≡ 4 = simp (length-take, length-drop) (omega arith) in
-    let f : v ≡ number-bytes 4 (crc32 (take 512 l)) = g ∙ rw (m, e) in
-    front l v r 512 516 (omega arith) h (ap length f ∙ length-number-bytes 4 _) ∙ rw f
+    let m : length (take 4 (drop sum-at l)) ≡ 4 = simp (length-take, length-drop) (omega arith) in
+    let f : v ≡ number-bytes 4 (crc32 (take sum-at l)) = g ∙ rw (m, e) in
+    front l v r sum-at file-length (omega arith) h (ap length f ∙ length-number-bytes 4 _) ∙ rw f
 
-pub front-state : (l u v r r′ : List ℕ) (b : List ℤ) (c : Counts) (ns : List ℕ) → 512 ≤ length l → length b ≡ 234 → u ≡ to-bytes b (take 468 (drop 36 l)) → ns ≡ Count.numbers c
-    → let o : List ℕ = take 36 l ++ (u ++ r) in 512 ≤ length o → v ≡ put-numbers count-widths ns (take 8 (drop 504 o)) → take 512 (take 504 o ++ (v ++ r′)) ≡ take 36 l ++ state-and-counts b c
+pub front-state : (l u v r r′ : List ℕ) (b : List ℤ) (c : Counts) (ns : List ℕ) → sum-at ≤ length l → length b ≡ 234 → u ≡ to-bytes b (take (counts-at - state-at) (drop state-at l)) → ns ≡ Count.numbers c
+    → let o : List ℕ = take state-at l ++ (u ++ r) in sum-at ≤ length o → v ≡ put-numbers count-widths ns (take (sum-at - counts-at) (drop counts-at o)) → take sum-at (take counts-at o ++ (v ++ r′)) ≡ take state-at l ++ state-and-counts b c
 unfolding state-and-counts count-widths Count.numbers total
 front-state l u v r r′ b c ns h n e i k g =
-    let o : List ℕ = take 36 l ++ (u ++ r) in
-    let f : u ≡ bytes b = e ∙ to-whole b (take 468 (drop 36 l)) (simp (length-take, length-drop) (omega arith)) in
-    let a : take 504 o ≡ take 36 l ++ u = front l u r 36 504 (omega arith) (omega arith) (ap length f ∙ length-bytes b ∙ omega arith) in
-    front-numbers o v r′ count-widths ns 504 512 (omega arith) k (widths-of i) (total-of) g ∙ rw (a, f, i) (append-assoc (take 36 l) (bytes b) _)
+    let o : List ℕ = take state-at l ++ (u ++ r) in
+    let f : u ≡ bytes b = e ∙ to-whole b (take (counts-at - state-at) (drop state-at l)) (simp (length-take, length-drop) (omega arith)) in
+    let a : take counts-at o ≡ take state-at l ++ u = front l u r state-at counts-at (omega arith) (omega arith) (ap length f ∙ length-bytes b ∙ omega arith) in
+    front-numbers o v r′ count-widths ns counts-at sum-at (omega arith) k (widths-of i) (total-of) g ∙ rw (a, f, i) (append-assoc (take state-at l) (bytes b) _)
   where
     widths-of : ns ≡ Count.numbers c → length count-widths ≡ length ns
     widths-of i = ap length (sym i)
 
-    total-of : total count-widths ≡ 512 - 504
+    total-of : total count-widths ≡ sum-at - counts-at
     total-of = refl
 
-pub pack-whole : (b : List ℤ) (p : Saved) (o₁ o₂ o₃ : List ℕ) → take 36 o₁ ≡ numbers-bytes widths (head p) → take 512 o₂ ≡ take 36 o₁ ++ state-and-counts b (p .counts)
-    → take 516 o₃ ≡ take 512 o₂ ++ number-bytes 4 (crc32 (take 512 o₂)) → length o₃ ≡ 516 → o₃ ≡ pack b p
+pub pack-whole : (b : List ℤ) (p : Saved) (o₁ o₂ o₃ : List ℕ) → take state-at o₁ ≡ numbers-bytes widths (head p) → take sum-at o₂ ≡ take state-at o₁ ++ state-and-counts b (p .counts)
+    → take file-length o₃ ≡ take sum-at o₂ ++ number-bytes 4 (crc32 (take sum-at o₂)) → length o₃ ≡ file-length → o₃ ≡ pack b p
 unfolding pack body
-pack-whole b p o₁ o₂ o₃ e₁ e₂ e₃ n = sym (take-all 516 o₃ (omega arith)) ∙ e₃ ∙ rw (e₂, e₁)
+pack-whole b p o₁ o₂ o₃ e₁ e₂ e₃ n = sym (take-all file-length o₃ (omega arith)) ∙ e₃ ∙ rw (e₂, e₁)
 
 -- ---- read
 
@@ -75,25 +75,25 @@ part-number l a k n h g p =
     let i : length (take k (drop a l)) ≡ k = simp (length-take, length-drop) (omega arith) in
     p .0 ∙ rw (take-all 8 (take k (drop a l)) (omega arith))
 
-pub sum-is : (f : List ℕ) (n s : ℕ) → length f ≡ 516
-    → (n ≡ number (take 8 (take 4 (drop 512 f)))) × (n < 2 ^ (8 * min 8 (length (take 4 (drop 512 f))))) → s ≡ crc32 (take 512 f) → eqb n s ≡ sum-fits f
+pub sum-is : (f : List ℕ) (n s : ℕ) → length f ≡ file-length
+    → (n ≡ number (take 8 (take 4 (drop sum-at f)))) × (n < 2 ^ (8 * min 8 (length (take 4 (drop sum-at f))))) → s ≡ crc32 (take sum-at f) → eqb n s ≡ sum-fits f
 unfolding sum-fits
-sum-is f n s h p e = rw (part-number f 512 4 n (omega arith) (omega arith) p, e)
+sum-is f n s h p e = rw (part-number f sum-at 4 n (omega arith) (omega arith) p, e)
 
-pub block-is : (f : List ℕ) (lent z : List ℤ) → length f ≡ 516 → length lent ≡ 234 → z ≡ from-bytes (take 468 (drop 36 f)) lent → z ≡ block f
+pub block-is : (f : List ℕ) (lent z : List ℤ) → length f ≡ file-length → length lent ≡ 234 → z ≡ from-bytes (take (counts-at - state-at) (drop state-at f)) lent → z ≡ block f
 unfolding block
-block-is f lent z h k e = e ∙ from-whole (take 468 (drop 36 f)) lent (simp (length-take, length-drop) (omega arith))
+block-is f lent z h k e = e ∙ from-whole (take (counts-at - state-at) (drop state-at f)) lent (simp (length-take, length-drop) (omega arith))
 
 -- the tests of `check`, in their order
-pub check-length : (f : List ℕ) (tables : ℕ) → length f ≢ 516 → 3 ≡ check f tables
+pub check-length : (f : List ℕ) (tables : ℕ) → length f ≢ file-length → 3 ≡ check f tables
 unfolding check
 check-length f tables h = rw (ne-eqb _ _ h)
 
-pub check-sum : (f : List ℕ) (tables : ℕ) → length f ≡ 516 → sum-fits f ≡ false → 22 ≡ check f tables
+pub check-sum : (f : List ℕ) (tables : ℕ) → length f ≡ file-length → sum-fits f ≡ false → 22 ≡ check f tables
 unfolding check
 check-sum f tables h e = rw (eq-eqb _ _ h, e)
 
-module _ (f : List ℕ) (tables : ℕ) (h : length f ≡ 516) (e : sum-fits f ≡ true) where
+module _ (f : List ℕ) (tables : ℕ) (h : length f ≡ file-length) (e : sum-fits f ≡ true) where
   pub check-known : known f ≡ false → 25 ≡ check f tables
   unfolding check
   check-known k = rw (eq-eqb _ _ h, e, k)
@@ -112,11 +112,11 @@ module _ (f : List ℕ) (tables : ℕ) (h : length f ≡ 516) (e : sum-fits f �
     check-state b r i t j s = rw (eq-eqb _ _ h, e, k, ← g, i, eq-eqb _ _ t, ← j) s
 
 -- a file that is not refused has 516 bytes
-pub check-zero : (f : List ℕ) (tables : ℕ) → check f tables ≡ 0 → length f ≡ 516
+pub check-zero : (f : List ℕ) (tables : ℕ) → check f tables ≡ 0 → length f ≡ file-length
 unfolding check
-check-zero f tables e = by (eqb (length f) 516) refl
+check-zero f tables e = by (eqb (length f) file-length) refl
   where
-    by : (t : Bool) → eqb (length f) 516 ≡ t → length f ≡ 516
+    by : (t : Bool) → eqb (length f) file-length ≡ t → length f ≡ file-length
     by true h = eqb-true _ _ h
     by false h = let z : _≡_ {A = ℕ} 3 0 = rw h at e in absurd (omega arith)
 
@@ -125,10 +125,10 @@ unfolding read
 read-refused f tables lent r e h = rw (← e, ne-eqb _ _ h)
 
 pub read-done : (f : List ℕ) (tables : ℕ) (lent z : List ℤ) (r : ℕ) (p : Saved) → r ≡ check f tables → r ≡ 0 → p ≡ place f → length lent ≡ 234
-    → z ≡ from-bytes (take 468 (drop 36 f)) lent → answer (Job p) z ≡ read f tables lent
+    → z ≡ from-bytes (take (counts-at - state-at) (drop state-at f)) lent → answer (Job p) z ≡ read f tables lent
 unfolding read
 read-done f tables lent z r p e h g k i =
-    let n : length f ≡ 516 = check-zero f tables (sym e ∙ h) in
+    let n : length f ≡ file-length = check-zero f tables (sym e ∙ h) in
     rw (← e, eq-eqb _ _ h, g, block-is f lent z n k i)
 
 -- ---- names

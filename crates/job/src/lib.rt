@@ -8,7 +8,7 @@ ghost use Prim.Native.Nat.{_≤_};
 ghost use lib.ListN.{length, take};
 ghost use Rattle.crc32.specs.Crc32.{crc32};
 ghost use Rattle.words.specs.Words.{number-bytes, numbers-bytes};
-ghost use Rattle.job.specs.Job.{start, widths, head, state-and-counts, pack, fields, counts, place, sum-fits, known, fits, check, Answer, read};
+ghost use Rattle.job.specs.Job.{state-at, sum-at, file-length, start, widths, head, state-and-counts, pack, fields, counts, place, sum-fits, known, fits, check, Answer, read};
 use count::Counts;
 use count::NUMBERS;
 use line::LONGEST;
@@ -45,6 +45,15 @@ const HEAD: usize = 7;
 
 const WIDTHS: [usize; HEAD] = [4, 4, 8, 8, 4, 4, 4];
 
+// Where the state, the counts and the check sum begin, and how long the file is.
+const STATE_AT: usize = 36;
+
+const COUNTS_AT: usize = STATE_AT + 468;
+
+const SUM_AT: usize = COUNTS_AT + 4 * NUMBERS;
+
+pub const LENGTH: usize = SUM_AT + 4;
+
 // Where a new job begins, with tables of this CRC-32.
 pub fn start(tables: u32) -> Saved
     ensures { λ r. ⌜ r ≡ start tables ⌝ }
@@ -62,8 +71,8 @@ pub fn start(tables: u32) -> Saved
 
 // The head at the front of `out`.
 fn put_head(p: Saved, out: &mut [u8])
-    requires { ⌜ 36 ≤ length (now out) ⌝ }
-    ensures { λ r. ⌜ take 36 (now (out .exit)) ≡ numbers-bytes widths (head p) ⌝ }
+    requires { ⌜ state-at ≤ length (now out) ⌝ }
+    ensures { λ r. ⌜ take state-at (now (out .exit)) ≡ numbers-bytes widths (head p) ⌝ }
 {
     let widths = WIDTHS;
     let values = [
@@ -75,34 +84,34 @@ fn put_head(p: Saved, out: &mut [u8])
         p.call as u64,
         p.lines as u64,
     ];
-    words::put_numbers(&widths, &values, &mut out[0..36]);
+    words::put_numbers(&widths, &values, &mut out[0..STATE_AT]);
 }
 
 // State and counts behind the head.
 fn put_state(block: &[i16; 234], c: Counts, out: &mut [u8])
-    requires { ⌜ 512 ≤ length (now out) ⌝ }
-    ensures { λ r. ⌜ take 512 (now (out .exit)) ≡ take 36 (now (out .entry)) ++ state-and-counts (now (block .entry)) c ⌝ }
+    requires { ⌜ sum-at ≤ length (now out) ⌝ }
+    ensures { λ r. ⌜ take sum-at (now (out .exit)) ≡ take state-at (now (out .entry)) ++ state-and-counts (now (block .entry)) c ⌝ }
 {
-    words::to_bytes(block, &mut out[36..504]);
+    words::to_bytes(block, &mut out[STATE_AT..COUNTS_AT]);
     let widths = [4usize; NUMBERS];
     let values = count::numbers(c);
-    words::put_numbers(&widths, &values, &mut out[504..512]);
+    words::put_numbers(&widths, &values, &mut out[COUNTS_AT..SUM_AT]);
 }
 
 // The check sum behind them.
 fn put_sum(out: &mut [u8])
-    requires { ⌜ 516 ≤ length (now out) ⌝ }
-    ensures { λ r. ⌜ take 516 (now (out .exit)) ≡ take 512 (now (out .entry)) ++ number-bytes 4 (crc32 (take 512 (now (out .entry)))) ⌝ }
+    requires { ⌜ file-length ≤ length (now out) ⌝ }
+    ensures { λ r. ⌜ take file-length (now (out .exit)) ≡ take sum-at (now (out .entry)) ++ number-bytes 4 (crc32 (take sum-at (now (out .entry)))) ⌝ }
 {
-    let sum = crc32::crc32(&out[0..512]);
-    words::put_number(sum as u64, &mut out[512..516]);
+    let sum = crc32::crc32(&out[0..SUM_AT]);
+    words::put_number(sum as u64, &mut out[SUM_AT..LENGTH]);
 }
 
 // The job file.
-pub fn pack(block: &[i16; 234], p: Saved) -> [u8; 516]
+pub fn pack(block: &[i16; 234], p: Saved) -> [u8; LENGTH]
     ensures { λ r. ⌜ r ≡ pack (now (block .entry)) p ⌝ }
 {
-    let mut out = [0u8; 516];
+    let mut out = [0u8; LENGTH];
     let counts = p.counts;
     put_head(p, &mut out);
     put_state(block, counts, &mut out);
@@ -122,18 +131,18 @@ fn fields(bytes: &[u8]) -> [u64; HEAD]
 
 // The counts in a job file.
 fn counts(bytes: &[u8]) -> Counts
-    requires { ⌜ length (now bytes) ≡ 516 ⌝ }
+    requires { ⌜ length (now bytes) ≡ file-length ⌝ }
     ensures { λ r. ⌜ r ≡ counts (now (bytes .entry)) ⌝ }
 {
     let widths = [4usize; NUMBERS];
     let mut values = [0u64; NUMBERS];
-    words::numbers(&widths, &bytes[504..512], &mut values);
+    words::numbers(&widths, &bytes[COUNTS_AT..SUM_AT], &mut values);
     count::of_numbers(values)
 }
 
 // The place in a job file.
 fn place(bytes: &[u8]) -> Saved
-    requires { ⌜ length (now bytes) ≡ 516 ⌝ }
+    requires { ⌜ length (now bytes) ≡ file-length ⌝ }
     ensures { λ r. ⌜ r ≡ place (now (bytes .entry)) ⌝ }
 {
     let counts = counts(bytes);
@@ -149,10 +158,10 @@ fn place(bytes: &[u8]) -> Saved
 }
 
 fn sum_fits(bytes: &[u8]) -> bool
-    requires { ⌜ length (now bytes) ≡ 516 ⌝ }
+    requires { ⌜ length (now bytes) ≡ file-length ⌝ }
     ensures { λ r. ⌜ r ≡ sum-fits (now (bytes .entry)) ⌝ }
 {
-    words::number(&bytes[512..516]) == crc32::crc32(&bytes[0..512]) as u64
+    words::number(&bytes[SUM_AT..LENGTH]) == crc32::crc32(&bytes[0..SUM_AT]) as u64
 }
 
 fn known(bytes: &[u8]) -> bool
@@ -180,7 +189,7 @@ fn fits(p: Saved) -> bool
 fn check(bytes: &[u8], tables: u32) -> u32
     ensures { λ r. ⌜ r ≡ check (now (bytes .entry)) tables ⌝ }
 {
-    if bytes.len() != 516 {
+    if bytes.len() != LENGTH {
         return 3;
     }
     if !sum_fits(bytes) {
@@ -197,7 +206,7 @@ fn check(bytes: &[u8], tables: u32) -> u32
         return 23;
     }
     let mut block = [0i16; 234];
-    words::from_bytes(&bytes[36..504], &mut block);
+    words::from_bytes(&bytes[STATE_AT..COUNTS_AT], &mut block);
     state::state_check(&block)
 }
 
@@ -209,6 +218,6 @@ pub fn read(bytes: &[u8], tables: u32, block: &mut [i16; 234]) -> Found
     if code != 0 {
         return Found::Refused(code);
     }
-    words::from_bytes(&bytes[36..504], block);
+    words::from_bytes(&bytes[STATE_AT..COUNTS_AT], block);
     Found::Job(place(bytes))
 }

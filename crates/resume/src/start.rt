@@ -9,6 +9,9 @@ use job::parts;
 use job::parts::Again;
 use print::FORM_ROOM;
 
+// One byte more than a state file has, so that a longer one is seen to be longer.
+const MORE: usize = job::LENGTH + 1;
+
 // The CRC-32 of the table file, which the state file has to name; not good where the tables are refused.
 pub(crate) struct Checked {
     pub sum: u32,
@@ -105,7 +108,7 @@ pub(crate) fn state(name: &[u8], tables: u32, b: &mut [i16; 234]) -> Begun {
             good: fresh,
         };
     }
-    let mut file = [0u8; 517];
+    let mut file = [0u8; MORE];
     let n = io::read_full(fd, &mut file);
     libc::close(fd);
     let found = job::read(&file[0..n], tables, b);

@@ -1,15 +1,15 @@
 -- A job file read back: what was packed, for every state block that 01's check accepts and all numbers that a job can have; with other tables it is refused with 23. Assumes nothing.
-use mathlib.Core.Path.{_≡_, refl, sym, ap, _∙_, subst}
+use mathlib.Core.Path.{_≡_, refl, sym, _∙_, subst}
 use mathlib.Core.Bool.{Bool, true, false, cond, _&&_}
-use mathlib.Core.List.{List, [], _∷_, _++_, append-assoc, append-nil}
+use mathlib.Core.List.{List, [], _++_, append-assoc, append-nil}
 use mathlib.Core.Logic.{_≢_}
-use Prim.Native.Nat.{ℕ, _+_, _*_, _^_, _≤_, _<_}
+use Prim.Native.Nat.{ℕ, _+_, _-_, _*_, _^_, _≤_, _<_}
 use native.Mathlib.Omega.{arith}
 use borrow.Author.Tests.{eq-eqb, ne-eqb, leb-true}
 use lib.Dec.{eqb, leb, T}
 use lib.IntN.{ℤ}
 use lib.Signed.{mag}
-use lib.ListN.{length, take, drop, length-append}
+use lib.ListN.{length, length-append}
 use lib.Seq.{take-at, drop-at, take-all}
 use Rattle.count.specs.Count as Count
 use Rattle.count.specs.Laws.{frames-few, numbers-small, numbers-back}
@@ -23,7 +23,7 @@ use Rattle.words.specs.Words.{Bytes, bytes, number-bytes, numbers-bytes}
 use Rattle.words.specs.Laws as Words
 use Rattle.job.specs.declared.Saved.{Saved}
 use Rattle.job.specs.declared.Found.the-variants.{Refused, Job}
-use Rattle.job.specs.Job.{tag, version, widths, head, count-widths, state-and-counts, body, pack, fields, block, counts, place, sum-fits, known, fits, check, answer, read}
+use Rattle.job.specs.Job.{state-at, counts-at, sum-at, file-length, tag, version, widths, head, count-widths, state-and-counts, body, pack, fields, block, counts, place, sum-fits, known, fits, check, answer, read}
 
 -- ---- the numbers of a job
 
@@ -88,25 +88,25 @@ module _ (b : List ℤ) (p : Saved) (n : length b ≡ 234) (w : (k : ℕ) → ma
   abbrev S : List ℕ
   S = number-bytes 4 (crc32 (body b p))
 
-  length-h : length H ≡ 36
+  length-h : length H ≡ state-at
   unfolding widths head Words.total
   length-h = Words.length-numbers-bytes widths (head p) refl
 
-  length-b : length (bytes b) ≡ 468
+  length-b : length (bytes b) ≡ counts-at - state-at
   length-b = Words.length-bytes b ∙ omega arith
 
-  length-n : length N ≡ 8
+  length-n : length N ≡ sum-at - counts-at
   unfolding count-widths Count.numbers Words.total
   length-n = Words.length-numbers-bytes count-widths (Count.numbers (p .counts)) refl
 
   length-s : length S ≡ 4
   length-s = Words.length-number-bytes 4 (crc32 (body b p))
 
-  length-body : length (body b p) ≡ 512
+  length-body : length (body b p) ≡ sum-at
   unfolding body state-and-counts
   length-body = simp length-append (omega (arith, length-h, length-b, length-n))
 
-  pub pack-length : length (pack b p) ≡ 516
+  pub pack-length : length (pack b p) ≡ file-length
   unfolding pack
   pack-length = length-append (body b p) S ∙ omega (arith, length-body, length-s)
 
@@ -122,7 +122,7 @@ module _ (b : List ℤ) (p : Saved) (n : length b ≡ 234) (w : (k : ℕ) → ma
   pub pack-sum : sum-fits (pack b p) ≡ true
   unfolding pack sum-fits
   pack-sum =
-      rw (take-at (body b p) S 512 length-body, drop-at (body b p) S 512 length-body, take-all 4 S (omega (arith, length-s)))
+      rw (take-at (body b p) S sum-at length-body, drop-at (body b p) S sum-at length-body, take-all 4 S (omega (arith, length-s)))
       (eq-eqb _ _ (Words.number-back 4 (crc32 (body b p)) (crc32-lt (body b p) bytes-body)))
 
   -- the parts of the file
@@ -142,8 +142,8 @@ module _ (b : List ℤ) (p : Saved) (n : length b ≡ 234) (w : (k : ℕ) → ma
   unfolding counts
   pack-counts =
       let f = small p e .counts in
-      let i : length (H ++ bytes b) ≡ 504 = length-append H (bytes b) ∙ omega (arith, length-h, length-b) in
-      rw (parts, ← append-assoc H (bytes b) (N ++ S), drop-at (H ++ bytes b) (N ++ S) 504 i, take-at N S 8 length-n, ← append-nil N, Words.numbers-back count-widths (Count.numbers (p .counts)) [] (count-fit p (small p e)))
+      let i : length (H ++ bytes b) ≡ counts-at = length-append H (bytes b) ∙ omega (arith, length-h, length-b) in
+      rw (parts, ← append-assoc H (bytes b) (N ++ S), drop-at (H ++ bytes b) (N ++ S) counts-at i, take-at N S (sum-at - counts-at) length-n, ← append-nil N, Words.numbers-back count-widths (Count.numbers (p .counts)) [] (count-fit p (small p e)))
       (numbers-back (p .counts) f)
 
   pub pack-place : place (pack b p) ≡ p
@@ -152,7 +152,7 @@ module _ (b : List ℤ) (p : Saved) (n : length b ≡ 234) (w : (k : ℕ) → ma
 
   pub pack-block : block (pack b p) ≡ b
   unfolding block
-  pack-block = rw (parts, drop-at H (bytes b ++ (N ++ S)) 36 length-h, take-at (bytes b) (N ++ S) 468 length-b) (Words.words-back b w)
+  pack-block = rw (parts, drop-at H (bytes b ++ (N ++ S)) state-at length-h, take-at (bytes b) (N ++ S) (counts-at - state-at) length-b) (Words.words-back b w)
 
   -- with tables of its CRC-32 the number is that of 01's check of the block, with others 23
   pub pack-check : (tables : ℕ) → check (pack b p) tables ≡ cond (eqb (p .tables) tables) (state-check b) 23

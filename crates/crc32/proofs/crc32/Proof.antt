@@ -1,5 +1,4 @@
 -- `crc32::crc32` meets its contract: the sum of none is 0.
-use mathlib.Core.Path.{refl, _∙_}
 use borrow.Author.Needs.{needs}
 use Rattle.crc32.specs.Crc32.{crc32, more}
 use Rattle.crc32.proofs.crc32.Statement.{statement}

@@ -3,7 +3,7 @@ use borrow.Author.Needs.{needs}
 use mathlib.Core.Path.{refl}
 use native.Mathlib.Omega.{arith}
 use Rattle.words.specs.Laws.{total}
-use Rattle.job.specs.Job.{widths, head}
+use Rattle.job.specs.Job.{state-at, widths, head}
 use Rattle.job.specs.Laws.{front-numbers}
 use Rattle.job.proofs.put_head.Statement.{statement}
 use Rattle.job.proofs.put_head.Tie as tie
@@ -11,7 +11,7 @@ use Rattle.job.proofs.put_head.Tie as tie
 returns : tie.Need-returns
 unfolding widths head total
 returns c =
-    front-numbers (c .before .before .before .before .before .before .before .before .before .before .args .out .now) _ _ widths (head (c .before .before .before .before .before .before .before .before .before .before .args .p)) 0 36 (omega arith) (c .before .before .before .before .before .before .before .before .before .before .pre) refl refl (c .before .before .put-numbers .ensures)
+    front-numbers (c .before .before .before .before .before .before .before .before .before .before .args .out .now) _ _ widths (head (c .before .before .before .before .before .before .before .before .before .before .args .p)) 0 state-at (omega arith) (c .before .before .before .before .before .before .before .before .before .before .pre) refl refl (c .before .before .put-numbers .ensures)
 
 pub put-head-spec : {M : Type 1} → statement M
 put-head-spec =

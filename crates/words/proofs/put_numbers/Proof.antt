@@ -4,7 +4,7 @@ use mathlib.Core.Path.{_≡_, refl}
 use mathlib.Core.List.{_++_}
 use native.Mathlib.Omega.{arith}
 use borrow.Author.Needs.{needs}
-use lib.ListN.{length, length-set, take, drop}
+use lib.ListN.{length, take, drop}
 use Rattle.words.specs.Words.{put-numbers}
 use Rattle.words.specs.Laws.{put-more-numbers, put-end}
 use Rattle.words.proofs.put_numbers.Statement.{statement}
