@@ -10,7 +10,7 @@ use Rattle.count.specs.declared.Counts.{Counts}
 use Rattle.count.specs.Count as Count
 use Rattle.crc32.specs.Crc32.{crc32}
 use Rattle.line.specs.Line.{shortest, longest}
-use Rattle.print.specs.Print.{frame-room}
+use Rattle.print.specs.Print.{frame-least, frame-room}
 use Rattle.state.specs.State.{state-check}
 use Rattle.words.specs.Words.{bytes, words, number, number-bytes, numbers, numbers-bytes}
 use Rattle.job.specs.declared.Saved.{Saved}
@@ -100,7 +100,8 @@ known f = eqb (getD (fields f) 0 0) tag && eqb (getD (fields f) 1 0) version
 unfoldable pub fits : Saved → Bool
 fits p =
     Count.fits (p .counts) && (Count.frames-are (p .lines) (p .counts)
-    && (leb ((shortest + 1) * p .lines) (p .at) && (leb (p .at) ((longest + 1) * p .lines) && leb (p .written) (frame-room * p .lines))))
+    && (leb ((shortest + 1) * p .lines) (p .at) && (leb (p .at) ((longest + 1) * p .lines)
+    && (leb (frame-least * p .lines) (p .written) && leb (p .written) (frame-room * p .lines)))))
 
 -- Tables of this CRC-32 are at hand. 3: not 516 bytes. 22: damaged, the check sum doesn't fit. 25: another form or version. 22: its numbers don't fit. 23: the job was begun with other tables.
 -- 4: as 01 says of a state block. The check sum comes first, since the damaged byte may be any; 23 comes before 4, since no word of the block is looked at before it is known to belong to

@@ -13,6 +13,7 @@ use count::Counts;
 use count::NUMBERS;
 use line::LONGEST;
 use line::SHORTEST;
+use print::FRAME_LEAST;
 use print::FRAME_ROOM;
 
 // Where a stopped job goes on, beside its state block.
@@ -178,10 +179,12 @@ fn fits(p: Saved) -> bool
     let lines = p.lines as u64;
     let least = (SHORTEST as u64 + 1) * lines;
     let most = (LONGEST as u64 + 1) * lines;
-    let room = (FRAME_ROOM as u64) * lines;
+    let least_out = (FRAME_LEAST as u64) * lines;
+    let most_out = (FRAME_ROOM as u64) * lines;
     count::fits(c)
         & (count::frames_are(p.lines, c)
-            & ((least <= p.at) & ((p.at <= most) & (p.written <= room))))
+            & ((least <= p.at)
+                & ((p.at <= most) & ((least_out <= p.written) & (p.written <= most_out)))))
 }
 
 // Whether a job file can be used with tables of this CRC-32: 0; 3 where it has not 516 bytes; 22 where its check sum or its numbers don't fit; 25 where it has another form or

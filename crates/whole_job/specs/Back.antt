@@ -17,7 +17,7 @@ use Rattle.crc32.specs.Crc32.{crc32}
 use Rattle.crc32.specs.Laws.{crc32-lt}
 use Rattle.laws.specs.Lists.{at}
 use Rattle.line.specs.Line.{shortest, longest}
-use Rattle.print.specs.Print.{frame-room}
+use Rattle.print.specs.Print.{frame-least, frame-room}
 use Rattle.state.specs.State.{state-check}
 use Rattle.words.specs.Words.{Bytes, bytes, number-bytes, numbers-bytes}
 use Rattle.words.specs.Laws as Words
@@ -38,6 +38,7 @@ pub record Small (p : Saved) : Type 0 where
   pub lines : p .lines ≤ Count.most
   pub least : (shortest + 1) * p .lines ≤ p .at
   pub at : p .at ≤ (longest + 1) * p .lines
+  pub least-out : frame-least * p .lines ≤ p .written
   pub written : p .written ≤ frame-room * p .lines
 
 pub small : (p : Saved) → fits p ≡ true → Small p
@@ -46,21 +47,23 @@ small p e =
     let f = both (Count.fits (p .counts)) _ e in
     let g = both (Count.frames-are (p .lines) (p .counts)) _ (f .1) in
     let h = both (leb ((shortest + 1) * p .lines) (p .at)) _ (g .1) in
-    let i = both (leb (p .at) ((longest + 1) * p .lines)) (leb (p .written) (frame-room * p .lines)) (h .1) in
+    let i = both (leb (p .at) ((longest + 1) * p .lines)) _ (h .1) in
+    let j = both (leb (frame-least * p .lines) (p .written)) (leb (p .written) (frame-room * p .lines)) (i .1) in
     record {
       counts = f .0;
       frames = g .0;
       lines = frames-few (p .lines) (p .counts) (f .0) (g .0);
       least = leb-true _ _ (h .0);
       at = leb-true _ _ (i .0);
-      written = leb-true _ _ (i .1);
+      least-out = leb-true _ _ (j .0);
+      written = leb-true _ _ (j .1);
     }
 
 -- each number of the head has room in its row
 head-fit : (p : Saved) → Small p → p .tables < 2 ^ 32 → p .call < 2 ^ 32 → Words.Fit widths (head p)
 unfolding widths head
 head-fit p s t c =
-    let l : p .lines ≤ 360000 = s .lines in
+    let l : p .lines ≤ Count.most = s .lines in
     Words.more 4 tag (omega arith) (omega arith)
     (Words.more 4 version (omega arith) (omega arith)
     (Words.more 8 (p .at) (omega arith) (omega (arith, s .at))
@@ -167,3 +170,8 @@ module _ (b : List ℤ) (p : Saved) (n : length b ≡ 234) (w : (k : ℕ) → ma
   pub pack-other : (tables : ℕ) (lent : List ℤ) → p .tables ≢ tables → read (pack b p) tables lent ≡ answer (Refused 23) lent
   unfolding read
   pack-other tables lent h = rw (pack-check tables, ne-eqb _ _ h)
+
+-- a file with a right check sum and another tag or version: 25, whatever else it holds and whichever tables are at hand
+pub other-version : (f : List ℕ) (tables : ℕ) (lent : List ℤ) → length f ≡ file-length → sum-fits f ≡ true → known f ≡ false → read f tables lent ≡ answer (Refused 25) lent
+unfolding read check
+other-version f tables lent n s k = rw (eq-eqb _ _ n, s, k)

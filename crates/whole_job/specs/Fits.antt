@@ -14,7 +14,7 @@ use Rattle.count.specs.Count as Count
 use Rattle.count.specs.Laws.{fits-more, frames-more}
 use Rattle.line.specs.Line.{shortest, longest}
 use Rattle.line.specs.Laws as Line
-use Rattle.print.specs.Print.{frame-room}
+use Rattle.print.specs.Print.{frame-least, frame-room}
 use Rattle.line_step.specs.declared.Progress.{Progress}
 use Rattle.line_step.specs.Step.{Job, Step, with-code, stop, line-step}
 use Rattle.line_step.specs.Laws.{by-line, sized}
@@ -46,9 +46,9 @@ able-more p q m a =
     let e : q .lines ≡ p .lines + 1 = m .line ∙ next-line (p .lines) (omega (arith, f .1)) in
     (e, (fits-more (m .kind) (p .counts) (q .counts) (a .0) (m .frame), rw e (f .0)))
 
--- what is printed has room for each line more
+-- what is printed is at least the least for each line more, and has room
 abbrev Room : Progress → ℕ → Progress → Type 0
-Room p n q = n + frame-room * p .lines ≤ frame-room * q .lines
+Room p n q = (frame-least * q .lines ≤ n + frame-least * p .lines) × (n + frame-room * p .lines ≤ frame-room * q .lines)
 
 line-able : (t : List ℤ) (job : Job) (l : List ℕ) → Able (job .progress)
     → let s : Step = line-step t job l in Able (s .job .progress) × Room (job .progress) (length (s .text)) (s .job .progress)
@@ -59,14 +59,15 @@ line-able t job l a = by (eqb (s .job .progress .code) 0) refl
 
     by : (x : Bool) → eqb (s .job .progress .code) 0 ≡ x → Able (s .job .progress) × Room (job .progress) (length (s .text)) (s .job .progress)
     by true z =
-        let m = able-more (job .progress) (s .job .progress) (counting t job l .more (eqb-true _ _ z)) a in
-        (m .1, omega (arith, m .0, sized t job l .fits))
+        let c : s .job .progress .code ≡ 0 = eqb-true _ _ z in
+        let m = able-more (job .progress) (s .job .progress) (counting t job l .more c) a in
+        (m .1, (omega (arith, m .0, sized t job l .printed c), omega (arith, m .0, sized t job l .fits)))
     by false z =
         let c : s .job .progress .code ≡ 0 → ⊥ = eqb-false _ _ z in
         let e : s .job .progress ≡ with-code (job .progress) (s .job .progress .code) = counting t job l .as-was c in
         let n : length (s .text) ≡ 0 = ap length (sized t job l .silent c) in
         let i : s .job .progress .lines ≡ job .progress .lines = ap (λ (p : Progress). p .lines) e in
-        (able e, omega arith)
+        (able e, (omega arith, omega arith))
       where
         able : s .job .progress ≡ with-code (job .progress) (s .job .progress .code) → Able (s .job .progress)
         able e = rw e a
@@ -109,10 +110,12 @@ pub part-able : (t : List ℤ) (job : Job) (most room : ℕ) (held l : List ℕ)
 unfolding behind none
 part-able t =
     by-part (λ (job : Job) (n : ℕ) (q : Part). Able (job .progress) → Grown job q) t
-    (λ job l a. record { able = a; text = omega arith })
+    (λ job l a. record { able = a; text = (omega arith, omega arith) })
     (λ job held l q c f a.
     let g = line-able t job held a in
-    record { able = f (g .0) .able; text = omega (arith, f (g .0) .text, g .1, length-append (line-step t job held .text) (q .text)) })
+    let h = f (g .0) in
+    let n = length-append (line-step t job held .text) (q .text) in
+    record { able = h .able; text = (omega (arith, h .text .0, g .1 .0, n), omega (arith, h .text .1, g .1 .1, n)) })
 
 -- where no line is refused
 pub record Fits (job : Job) (n : ℕ) (q : Part) : Type 0 where

@@ -26,7 +26,7 @@ use Rattle.call.specs.Call.{last-form, printed, fresh-job, file-check, output}
 use Rattle.call.specs.Chunk as Chunk
 use Rattle.whole_call.specs.Ending.{fresh-checked}
 use Rattle.whole_call.specs.Whole.{printed-ended, again, lines-made, overlong-made}
-use Rattle.print.specs.Print.{over, frame-room}
+use Rattle.print.specs.Print.{over, frame-least, frame-room}
 use Rattle.laws.specs.Lists.{at}
 use Rattle.state.specs.State.{state-check}
 use Rattle.words.specs.Words.{Bytes, words}
@@ -136,9 +136,13 @@ module _ (file text all : List ℕ) (b : List ℤ) (p : Saved) (out : List ℕ) 
   lines-few = frames-few (Q .job .progress .lines) (Q .job .progress .counts) (grown .able .0) (grown .able .1)
 
   -- what was written and what is printed now
+  printed-least : frame-least * Q .job .progress .lines ≤ p .written + length (Q .text)
+  unfolding going progress
+  printed-least = omega (arith, grown .text .0, small p (good .able) .least-out)
+
   printed-few : p .written + length (Q .text) ≤ frame-room * Q .job .progress .lines
   unfolding going progress
-  printed-few = omega (arith, grown .text, small p (good .able) .written)
+  printed-few = omega (arith, grown .text .1, small p (good .able) .written)
 
   length-input : length input ≡ n
   length-input = simp (length-take, length-drop) (omega arith)
@@ -162,7 +166,7 @@ module _ (file text all : List ℕ) (b : List ℤ) (p : Saved) (out : List ℕ) 
   next-is : after p input Q ≡ next
   unfolding after used next
   next-is =
-      let l : Q .job .progress .lines ≤ 360000 = lines-few in
+      let l : Q .job .progress .lines ≤ Count.most = lines-few in
       let a : (p .at + used) % 2 ^ 64 ≡ p .at + used = mod-eq-of-lt (omega (arith, length-input)) in
       let w : (p .written + length (Q .text)) % 2 ^ 64 ≡ p .written + length (Q .text) = mod-eq-of-lt (omega (arith, printed-few)) in
       rw (a, w)
@@ -194,6 +198,7 @@ module _ (file text all : List ℕ) (b : List ℤ) (p : Saved) (out : List ℕ) 
         grown .able .1,
         le-leb ((shortest + 1) * Q .job .progress .lines) (p .at + used) (omega (arith, f .least, s .least, used-all)),
         le-leb (p .at + used) ((longest + 1) * Q .job .progress .lines) (omega (arith, f .most, s .at, used-all)),
+        le-leb (frame-least * Q .job .progress .lines) (p .written + length (Q .text)) printed-least,
         le-leb (p .written + length (Q .text)) (frame-room * Q .job .progress .lines) printed-few,
       )
 

@@ -6,10 +6,10 @@ use Rattle.job.proofs.fits.Tie as tie
 
 returns : tie.Need-returns
 unfolding fits
-returns c = rw (c .before .before .before .before .fits2 .ensures, c .before .before .before .frames-are .ensures)
+returns c = rw (c .before .before .before .before .before .fits2 .ensures, c .before .before .before .before .frames-are .ensures)
 
 pub fits-spec : {M : Type 1} → statement M
 fits-spec =
     tie.close
-    (tie.spec (λ c. search needs) (λ c. search needs) (λ c. search needs) (λ c. search needs) (λ c. search needs) (λ c. search needs)
+    (tie.spec (λ c. search needs) (λ c. search needs) (λ c. search needs) (λ c. search needs) (λ c. search needs) (λ c. search needs) (λ c. search needs)
     (λ c κs. search needs) (λ c κs. search needs) returns)
