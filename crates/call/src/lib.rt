@@ -31,13 +31,6 @@ pub fn start() -> Progress
     }
 }
 
-// The lesser of two lengths.
-fn lesser(a: usize, b: usize) -> usize
-    ensures { λ r. ⌜ r ≡ min a b ⌝ }
-{
-    if a < b { a } else { b }
-}
-
 // Whether a further line is taken, where `most` may be and `room` bytes of output are left.
 fn goes_on(job: Progress, most: u32, room: usize) -> bool
     ensures { λ r. ⌜ r ≡ goes-on job most room ⌝ }
@@ -137,7 +130,7 @@ pub fn finish(job: Progress, held: &[u8], out: &mut [u8; FORM_ROOM]) -> usize
 pub fn keep(input: &mut [u8], from: usize, to: usize) -> usize
     ensures { λ r. ⌜ (r ≤ length (now (input .entry))) × ((r ≡ length (slice from to (now (input .entry)))) × (now (input .exit) ≡ over (slice from to (now (input .entry))) (now (input .entry)))) ⌝ }
 {
-    let end = lesser(to, input.len());
+    let end = words::lesser(to, input.len());
     if end <= from {
         return 0;
     }

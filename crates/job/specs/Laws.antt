@@ -15,6 +15,7 @@ use Rattle.count.specs.Count as Count
 use Rattle.crc32.specs.Crc32.{crc32}
 use Rattle.print.specs.Print.{over}
 use Rattle.state.specs.State.{state-check}
+use Rattle.text.specs.Text.{ascii}
 use Rattle.words.specs.Words.{bytes, from-bytes, to-bytes, number, number-bytes, numbers-bytes, put-numbers}
 use Rattle.words.specs.Laws.{from-whole, to-whole, length-bytes, length-number-bytes, length-numbers-bytes, put-whole, total}
 use Rattle.job.specs.declared.Saved.{Saved}
@@ -154,12 +155,12 @@ two-parts path q out o v n h e g i =
     rw (i, b, a, t, d, append-nil, w) (sym (append-assoc path q _))
 
 pub aside-done : (path out o v : List ℕ) (n m : ℕ) → length path + 4 ≤ length out → n ≡ length path → o ≡ take (length path) path ++ drop (length path) out → m ≡ 4
-    → v ≡ (46 ∷ 110 ∷ 101 ∷ 119 ∷ []) ++ drop 4 (take (length o - n) (drop n o))
+    → v ≡ ascii ".new" ++ drop 4 (take (length o - n) (drop n o))
     → (Names.answer (n + m) (take n o ++ (v ++ drop (length o - n) (drop n o))) ≡ aside path out) × (n + m ≤ length out)
 unfolding aside new
 aside-done path out o v n m h e g f i =
     let k : n + m ≡ length path + 4 = omega arith in
-    (rw (le-leb (length path + 4) (length out) h, two-parts path (46 ∷ 110 ∷ 101 ∷ 119 ∷ []) out o v n h e g i, k), omega arith)
+    (rw (le-leb (length path + 4) (length out) h, two-parts path (ascii ".new") out o v n h e g i, k), omega arith)
 
 folder-snoc : (l : List ℕ) (b : ℕ) → folder (l ++ (b ∷ [])) ≡ cond (eqb b 47) (suc (length l)) (folder l)
 unfolding folder

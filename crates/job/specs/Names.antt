@@ -5,10 +5,11 @@ use Prim.Native.Nat.{ℕ, suc, _+_}
 use lib.Dec.{eqb, leb}
 use lib.ListN.{length}
 use Rattle.print.specs.Print.{over}
+use Rattle.text.specs.Text.{ascii}
 
 -- `.new` behind it
 unfoldable pub new : List ℕ → List ℕ
-new path = path ++ (46 ∷ 110 ∷ 101 ∷ 119 ∷ [])
+new path = path ++ ascii ".new"
 
 -- the number of bytes, and the lent ones
 pub data Answer : Type 0 where

@@ -1,3 +1,3 @@
--- The definitions that the contract of `line_step` cites, and their laws.
+-- The definitions that the contracts of `line_step` cite, and their laws.
 pub mod Step
 pub mod Laws

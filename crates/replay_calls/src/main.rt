@@ -21,18 +21,12 @@ struct Place {
     more: bool,
 }
 
-fn lesser(a: usize, b: usize) -> usize
-    ensures { λ r. ⌜ (r ≤ a) × (r ≤ b) ⌝ }
-{
-    if a < b { a } else { b }
-}
-
 // A read: bytes of the text from `at` on to the input buffer from `to` on, `size` at most.
 fn feed(text: &[u8], at: usize, size: usize, input: &mut [u8], to: usize) -> usize
     requires { ⌜ (at ≤ length (now text)) × (to ≤ length (now input)) ⌝ }
     ensures { λ r. ⌜ (at + r ≤ length (now (text .entry))) × (to + r ≤ length (now (input .entry))) ⌝ }
 {
-    let n = lesser(size, lesser(text.len() - at, input.len() - to));
+    let n = words::lesser(size, words::lesser(text.len() - at, input.len() - to));
     let mut i = 0;
     while i < n {
         input[to + i] = text[at + i];
@@ -53,7 +47,7 @@ fn read(
 ) -> Place
     ensures { λ r. ⌜ (r .from ≤ r .to) × (r .to ≤ length (now (input .entry))) ⌝ }
 {
-    let at = lesser(place, text.len());
+    let at = words::lesser(place, text.len());
     let kept = call::keep(input, from, to);
     let got = feed(text, at, size, input, kept);
     Place {
@@ -174,8 +168,8 @@ fn case(t: &[i16], b: &mut [i16], text: &mut [u8], out: &mut [u8]) -> bool {
     if n < 20 {
         return false;
     }
-    let length = lesser(number(head, 0), text.len());
-    let room = lesser(number(head, 2), out.len());
+    let length = words::lesser(number(head, 0), text.len());
+    let room = words::lesser(number(head, 2), out.len());
     let frames = number(head, 3);
     let counts = count::of_numbers([frames as u64, number(head, 4) as u64]);
     let job = Progress {

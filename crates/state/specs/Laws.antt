@@ -13,7 +13,7 @@ use Rattle.block.specs.Places.{past-length, tail-length, past-place, tail-place
 use Rattle.tables.specs.Layout.{table-check}
 use Rattle.tables.specs.Laws.{accepted-delay}
 use Rattle.tables.specs.Formula.{lsp-quantizer-initial-memory, gain-predictor-initial-memory}
-use Rattle.state.specs.State.{State, read-params, read-signal, read, lsp-words, exc-words, write-params, write, fresh-params, fresh, predictor-in-range, accepted, state-check, accepted-state}
+use Rattle.state.specs.State.{State, read-params, read-signal, read, lsp-params, excitation-params, write-params, write, fresh-params, fresh, predictor-in-range, accepted, state-check, accepted-state}
 
 -- ---- how many words each part has
 
@@ -59,14 +59,14 @@ fresh-sized t =
     }
 
 pub length-write : (s : State) → Sized s → length (write s) ≡ state-length
-unfolding write write-params lsp-words exc-words
+unfolding write write-params lsp-params excitation-params
 length-write s k = simp (length-append, k .r0, k .r1, k .r2, k .r3, k .omega, k .lsp, k .mem, k .past, k .tail)
 
 -- ---- what is written is read
 
 write-flat : (s : State) → write s ≡ s .params .r0 ++ (s .params .r1 ++ (s .params .r2 ++ (s .params .r3 ++ (s .params .predictor ∷ (s .params .omega ++ (s .params .lsp
     ++ (s .params .pitch .old ∷ s .params .seed ∷ (s .params .gain .mem ++ (s .params .gain .gp ∷ s .params .gain .gc ∷ s .params .beta ∷ (s .signal .past ++ s .signal .tail))))))))))
-unfolding write write-params lsp-words exc-words
+unfolding write write-params lsp-params excitation-params
 write-flat s = simp append-assoc
 
 pub read-write : (s : State) → Sized s → read (write s) ≡ s

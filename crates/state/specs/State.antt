@@ -49,15 +49,15 @@ unfoldable pub read : List ℤ → State
 read b = record { params = read-params b; signal = read-signal b }
 
 -- words 0 to 60: the quantizer's memory, and the LSF and LSP of the frame before
-unfoldable pub lsp-words : Params → List ℤ
-lsp-words p = p .r0 ++ (p .r1 ++ (p .r2 ++ (p .r3 ++ (p .predictor ∷ (p .omega ++ p .lsp)))))
+unfoldable pub lsp-params : Params → List ℤ
+lsp-params p = p .r0 ++ (p .r1 ++ (p .r2 ++ (p .r3 ++ (p .predictor ∷ (p .omega ++ p .lsp)))))
 
 -- words 61 to 69: the delay, the seed, the gains and the sharpening factor
-unfoldable pub exc-words : Params → List ℤ
-exc-words p = p .pitch .old ∷ p .seed ∷ (p .gain .mem ++ (p .gain .gp ∷ p .gain .gc ∷ p .beta ∷ []))
+unfoldable pub excitation-params : Params → List ℤ
+excitation-params p = p .pitch .old ∷ p .seed ∷ (p .gain .mem ++ (p .gain .gp ∷ p .gain .gc ∷ p .beta ∷ []))
 
 unfoldable pub write-params : Params → List ℤ
-write-params p = lsp-words p ++ exc-words p
+write-params p = lsp-params p ++ excitation-params p
 
 unfoldable pub write : State → List ℤ
 write s = write-params (s .params) ++ (s .signal .past ++ s .signal .tail)

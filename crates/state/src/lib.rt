@@ -9,7 +9,7 @@ ghost use lib.ListN.{length, drop, replicate};
 ghost use Rattle.block.specs.Block.{part};
 ghost use Rattle.block.specs.Laws.{Front};
 ghost use Rattle.block.specs.Places.{frame-length, past-length, past-place, tail-length, tail-place, state-length};
-ghost use Rattle.state.specs.State.{read-params, lsp-words, exc-words, write-params, write, fresh-params, fresh, accepted, state-check, Answer, fresh-state};
+ghost use Rattle.state.specs.State.{read-params, lsp-params, excitation-params, write-params, write, fresh-params, fresh, accepted, state-check, Answer, fresh-state};
 use block::places::EXC_LENGTH;
 use block::places::FRAME_LENGTH;
 use block::places::PAST_LENGTH;
@@ -103,8 +103,8 @@ pub fn read_speech(b: &[i16]) -> [i16; SPEECH_LENGTH]
 // ---- and back
 
 // Words 0 to 60 of a block.
-fn write_lsp(p: Params, out: &mut [i16; STATE_LENGTH])
-    ensures { λ r. ⌜ (length (now (out .entry)) ≡ state-length → Front state-length (now (out .exit)) 61 (lsp-words p)) ⌝ }
+fn write_lsp_params(p: Params, out: &mut [i16; STATE_LENGTH])
+    ensures { λ r. ⌜ (length (now (out .entry)) ≡ state-length → Front state-length (now (out .exit)) 61 (lsp-params p)) ⌝ }
 {
     let r0 = p.r0;
     block::put(out, 0, &r0);
@@ -122,8 +122,8 @@ fn write_lsp(p: Params, out: &mut [i16; STATE_LENGTH])
 }
 
 // Words 61 to 69 behind them.
-fn write_exc(p: Params, out: &mut [i16; STATE_LENGTH])
-    ensures { λ r. ⌜ ((l : List ℤ) → Front state-length (now (out .entry)) 61 l → Front state-length (now (out .exit)) past-place (l ++ exc-words p)) ⌝ }
+fn write_excitation_params(p: Params, out: &mut [i16; STATE_LENGTH])
+    ensures { λ r. ⌜ ((l : List ℤ) → Front state-length (now (out .entry)) 61 l → Front state-length (now (out .exit)) past-place (l ++ excitation-params p)) ⌝ }
 {
     block::put_word(out, 61, p.pitch.old);
     block::put_word(out, 62, p.seed);
@@ -143,8 +143,8 @@ pub fn write_block(
     ensures { λ r. ⌜ r ≡ write-params p ++ (drop frame-length (now (exc .entry)) ++ drop frame-length (now (speech .entry))) ⌝ }
 {
     let mut out = [0i16; STATE_LENGTH];
-    write_lsp(p, &mut out);
-    write_exc(p, &mut out);
+    write_lsp_params(p, &mut out);
+    write_excitation_params(p, &mut out);
     let past = &exc[..];
     block::put(&mut out, PAST_PLACE, &past[FRAME_LENGTH..]);
     let tail = &speech[..];

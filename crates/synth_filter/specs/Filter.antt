@@ -2,7 +2,7 @@
 -- A frame has 234 words of excitation, 154 of the past and 80 of its own, and 90 words of speech, the last ten samples of the frame
 -- before and 80 of its own. A subframe is 40 of the 80 words: the first half of them, or the second.
 use Prim.Native.Nat.{ℕ, _+_, _-_}
-use mathlib.Core.Bool.{Bool, false, cond, _||_}
+use mathlib.Core.Bool.{Bool, false, _||_}
 use mathlib.Core.List.{List}
 use lib.IntN.{ℤ, pos}
 use Rattle.laws.specs.Lists.{at}

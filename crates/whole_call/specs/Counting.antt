@@ -43,16 +43,16 @@ unfolding one-more
 next-line n h = rw (lt-ltb n 4294967295 h)
 
 -- so from a call's start on the frames are the lines, and none is the last number
-pub record Lined (p : Progress) : Type 0 where
+pub record LinesAreFrames (p : Progress) : Type 0 where
   pub frames : frames-are (p .lines) (p .counts) ≡ true
   pub few : p .lines ≤ most
 
-pub lined-start : Lined start
+pub lines-start : LinesAreFrames start
 unfolding start
-lined-start = record { frames = frames-none; few = omega arith }
+lines-start = record { frames = frames-none; few = omega arith }
 
-pub lined-more : (p q : Progress) → Lined p → More p q → (q .lines ≡ p .lines + 1) × Lined q
-lined-more p q l m =
+pub lines-more : (p q : Progress) → LinesAreFrames p → More p q → (q .lines ≡ p .lines + 1) × LinesAreFrames q
+lines-more p q l m =
     let c = frames-more (m .kind) (p .lines) (p .counts) (q .counts) (m .frame) (l .frames) in
     let e : q .lines ≡ p .lines + 1 = m .line ∙ next-line (p .lines) (omega arith) in
     (e, record { frames = rw e (c .0); few = omega arith })

@@ -23,7 +23,7 @@ use Rattle.line_step.specs.declared.Progress.{Progress}
 use Rattle.line_step.specs.Step.{Job, Step, with-code, line-step}
 use Rattle.call.specs.Call.{start, last-form, printed, fresh-job, file-check, output}
 use Rattle.call.specs.Chunk.{to-feed}
-use Rattle.whole_call.specs.Counting.{counting, next-line, Lined, lined-start, lined-more}
+use Rattle.whole_call.specs.Counting.{counting, next-line, LinesAreFrames, lines-start, lines-more}
 use Rattle.whole_call.specs.Codes.{refuses, refused-with, line-accepted}
 use Rattle.whole_call.specs.Whole.{feedless-rest, feedless-more, no-feed, printed-ended}
 
@@ -74,25 +74,25 @@ line-more n m held text v out b hm h e (with-refusal samples before rest code z 
 
 -- ---- the last form
 
-refused-form : (p : Progress) (held : List ℕ) → Lined p → (p .code ≡ 0 → ⊥) → last-form p held ≡ refused (p .code) (p .lines + feeds [] + 1)
+refused-form : (p : Progress) (held : List ℕ) → LinesAreFrames p → (p .code ≡ 0 → ⊥) → last-form p held ≡ refused (p .code) (p .lines + feeds [] + 1)
 unfolding last-form feeds
 refused-form p held l z = rw (ne-eqb (p .code) 0 z, next-line (p .lines) (omega (arith, l .few))) (ap (λ (n : ℕ). refused (p .code) n) (omega arith))
 
 -- a line that is refused leaves the lines as they were
-refused-as-was : (p q : Progress) → Lined p → (q .code ≡ 0 → ⊥) → q ≡ with-code p (q .code) → last-form q [] ≡ refused (q .code) (p .lines + feeds [] + 1)
+refused-as-was : (p q : Progress) → LinesAreFrames p → (q .code ≡ 0 → ⊥) → q ≡ with-code p (q .code) → last-form q [] ≡ refused (q .code) (p .lines + feeds [] + 1)
 refused-as-was p q l z e =
     let n : q .lines ≡ p .lines = ap (λ (x : Progress). x .lines) e in
     let c : q .counts ≡ p .counts = ap (λ (x : Progress). x .counts) e in
     refused-form q [] (record { frames = rw (c, n) (l .frames); few = rw n (l .few) }) z ∙ rw n
 
-open-form : (p : Progress) (held : List ℕ) → Lined p → p .code ≡ 0 → Ending (p .lines) held (last-form p held)
+open-form : (p : Progress) (held : List ℕ) → LinesAreFrames p → p .code ≡ 0 → Ending (p .lines) held (last-form p held)
 unfolding last-form feeds ended refuses
 open-form p [] l z = with-total [] (p .counts) refl (rw (add-zero (p .lines)) (l .frames)) (rw (eq-eqb (p .code) 0 z))
 open-form p (b ∷ held) l z =
     with-refusal [] [] (b ∷ held) 9 refl refl refl (omega arith)
     (rw (eq-eqb (p .code) 0 z, ne-eqb (length (b ∷ held)) 0 (λ e. omega arith), next-line (p .lines) (omega (arith, l .few))) (ap (λ (n : ℕ). refused 9 n) (omega arith)))
 
-pub ending : (t : List ℤ) (job : Job) (held text : List ℕ) → table-check t ≡ 0 → state-check (job .block) ≡ 0 → job .progress .code ≡ 0 → Lined (job .progress) → to-feed held ≡ length held
+pub ending : (t : List ℤ) (job : Job) (held text : List ℕ) → table-check t ≡ 0 → state-check (job .block) ≡ 0 → job .progress .code ≡ 0 → LinesAreFrames (job .progress) → to-feed held ≡ length held
     → Ending (job .progress .lines) (held ++ text) (printed t job held text)
 unfolding printed
 ending t job held [] ht hb z k h = rw (append-nil held) (open-form (job .progress) held k z)
@@ -107,12 +107,12 @@ ending t job held (b ∷ text) ht hb z k h =
     n = job .progress .lines
 
     by : (p q : Bool) → eqb b 10 ≡ p → eqb (s .job .progress .code) 0 ≡ q
-        → (s .job .progress .code ≡ 0 → Lined (s .job .progress) → Ending (s .job .progress .lines) text (printed t (s .job) [] text))
+        → (s .job .progress .code ≡ 0 → LinesAreFrames (s .job .progress) → Ending (s .job .progress .lines) text (printed t (s .job) [] text))
         → (eqb b 10 ≡ false → Ending n ((held ++ (b ∷ [])) ++ text) (printed t job (held ++ (b ∷ [])) text))
         → Ending n (held ++ (b ∷ text)) (cond p (s .text ++ printed t (s .job) [] text) (printed t job (held ++ (b ∷ [])) text))
     by true true e g f r =
         let c : s .job .progress .code ≡ 0 = eqb-true (s .job .progress .code) 0 g in
-        let m = lined-more (job .progress) (s .job .progress) k (counting t job held .more c) in
+        let m = lines-more (job .progress) (s .job .progress) k (counting t job held .more c) in
         line-more n (s .job .progress .lines) held text (s .text) _ b (m .0) h e (f c (m .1))
     by true false e g f r =
         let c : s .job .progress .code ≡ 0 → ⊥ = eqb-false (s .job .progress .code) 0 g in
@@ -153,6 +153,6 @@ pub ends : (file text : List ℕ) → Ends file text
 unfolding output fresh-job start
 ends file text =
     record {
-      with-tables = λ e. rw (eq-eqb (file-check file) 0 e) (ending (words file) (fresh-job (words file)) [] text (checked file e) (fresh-checked file e) refl lined-start no-feed);
+      with-tables = λ e. rw (eq-eqb (file-check file) 0 e) (ending (words file) (fresh-job (words file)) [] text (checked file e) (fresh-checked file e) refl lines-start no-feed);
       no-tables = λ n. (rw (ne-eqb (file-check file) 0 n), file-check-few file);
     }

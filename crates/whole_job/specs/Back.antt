@@ -32,7 +32,7 @@ both true b e = (refl, e)
 both false b e = absurd (subst T (sym e) tt)
 
 -- what fits is far from the ends of 32 and 64 bits
-pub record Small (p : Saved) : Type 0 where
+pub record InBounds (p : Saved) : Type 0 where
   pub counts : Count.fits (p .counts) ≡ true
   pub frames : Count.frames-are (p .lines) (p .counts) ≡ true
   pub lines : p .lines ≤ Count.most
@@ -41,7 +41,7 @@ pub record Small (p : Saved) : Type 0 where
   pub least-out : frame-least * p .lines ≤ p .written
   pub written : p .written ≤ frame-room * p .lines
 
-pub small : (p : Saved) → fits p ≡ true → Small p
+pub small : (p : Saved) → fits p ≡ true → InBounds p
 unfolding fits
 small p e =
     let f = both (Count.fits (p .counts)) _ e in
@@ -60,7 +60,7 @@ small p e =
     }
 
 -- each number of the head has room in its row
-head-fit : (p : Saved) → Small p → p .tables < 2 ^ 32 → p .call < 2 ^ 32 → Words.Fit widths (head p)
+head-fit : (p : Saved) → InBounds p → p .tables < 2 ^ 32 → p .call < 2 ^ 32 → Words.Fit widths (head p)
 unfolding widths head
 head-fit p s t c =
     let l : p .lines ≤ Count.most = s .lines in
@@ -73,7 +73,7 @@ head-fit p s t c =
     (Words.more 4 (p .lines) (omega arith) (omega arith) Words.none))))))
 
 -- and so have the counts
-count-fit : (p : Saved) → Small p → Words.Fit count-widths (Count.numbers (p .counts))
+count-fit : (p : Saved) → InBounds p → Words.Fit count-widths (Count.numbers (p .counts))
 unfolding count-widths Count.numbers
 count-fit p s =
     let m = numbers-small (p .counts) (s .counts) in

@@ -37,10 +37,10 @@ line-bytes t job l =
     (λ kind bytes e z. Line.frame-length l (replicate 10 0) bytes kind e)
 
 -- counts that a job can have, and as many lines as frames
-abbrev pub Able : Progress → Type 0
-Able p = (Count.fits (p .counts) ≡ true) × (Count.frames-are (p .lines) (p .counts) ≡ true)
+abbrev pub CanBeSaved : Progress → Type 0
+CanBeSaved p = (Count.fits (p .counts) ≡ true) × (Count.frames-are (p .lines) (p .counts) ≡ true)
 
-able-more : (p q : Progress) → More p q → Able p → (q .lines ≡ p .lines + 1) × Able q
+able-more : (p q : Progress) → More p q → CanBeSaved p → (q .lines ≡ p .lines + 1) × CanBeSaved q
 able-more p q m a =
     let f = frames-more (m .kind) (p .lines) (p .counts) (q .counts) (m .frame) (a .1) in
     let e : q .lines ≡ p .lines + 1 = m .line ∙ next-line (p .lines) (omega (arith, f .1)) in
@@ -50,14 +50,14 @@ able-more p q m a =
 abbrev Room : Progress → ℕ → Progress → Type 0
 Room p n q = (frame-least * q .lines ≤ n + frame-least * p .lines) × (n + frame-room * p .lines ≤ frame-room * q .lines)
 
-line-able : (t : List ℤ) (job : Job) (l : List ℕ) → Able (job .progress)
-    → let s : Step = line-step t job l in Able (s .job .progress) × Room (job .progress) (length (s .text)) (s .job .progress)
+line-able : (t : List ℤ) (job : Job) (l : List ℕ) → CanBeSaved (job .progress)
+    → let s : Step = line-step t job l in CanBeSaved (s .job .progress) × Room (job .progress) (length (s .text)) (s .job .progress)
 line-able t job l a = by (eqb (s .job .progress .code) 0) refl
   where
     s : Step
     s = line-step t job l
 
-    by : (x : Bool) → eqb (s .job .progress .code) 0 ≡ x → Able (s .job .progress) × Room (job .progress) (length (s .text)) (s .job .progress)
+    by : (x : Bool) → eqb (s .job .progress .code) 0 ≡ x → CanBeSaved (s .job .progress) × Room (job .progress) (length (s .text)) (s .job .progress)
     by true z =
         let c : s .job .progress .code ≡ 0 = eqb-true _ _ z in
         let m = able-more (job .progress) (s .job .progress) (counting t job l .more c) a in
@@ -69,7 +69,7 @@ line-able t job l a = by (eqb (s .job .progress .code) 0) refl
         let i : s .job .progress .lines ≡ job .progress .lines = ap (λ (p : Progress). p .lines) e in
         (able e, (omega arith, omega arith))
       where
-        able : s .job .progress ≡ with-code (job .progress) (s .job .progress .code) → Able (s .job .progress)
+        able : s .job .progress ≡ with-code (job .progress) (s .job .progress .code) → CanBeSaved (s .job .progress)
         able e = rw e a
 
 -- ---- a part, of n bytes
@@ -102,14 +102,14 @@ by-part P t f g job most room held (b ∷ l) =
     by true false e h k = let n : length (held ++ (b ∷ [])) + length l ≡ N = rw length-append (omega arith) in rw n at k
     by false q e h k = let n : length (held ++ (b ∷ l)) ≡ N = rw length-append (omega arith) in rw n at (f job (held ++ (b ∷ l)))
 
-pub record Grown (job : Job) (q : Part) : Type 0 where
-  pub able : Able (q .job .progress)
+pub record AfterPart (job : Job) (q : Part) : Type 0 where
+  pub able : CanBeSaved (q .job .progress)
   pub text : Room (job .progress) (length (q .text)) (q .job .progress)
 
-pub part-able : (t : List ℤ) (job : Job) (most room : ℕ) (held l : List ℕ) → Able (job .progress) → Grown job (part t job most room held l)
+pub part-able : (t : List ℤ) (job : Job) (most room : ℕ) (held l : List ℕ) → CanBeSaved (job .progress) → AfterPart job (part t job most room held l)
 unfolding behind none
 part-able t =
-    by-part (λ (job : Job) (n : ℕ) (q : Part). Able (job .progress) → Grown job q) t
+    by-part (λ (job : Job) (n : ℕ) (q : Part). CanBeSaved (job .progress) → AfterPart job q) t
     (λ job l a. record { able = a; text = (omega arith, omega arith) })
     (λ job held l q c f a.
     let g = line-able t job held a in
@@ -123,11 +123,11 @@ pub record Fits (job : Job) (n : ℕ) (q : Part) : Type 0 where
   pub least : length (q .unused) + (shortest + 1) * q .job .progress .lines ≤ n + (shortest + 1) * job .progress .lines
   pub most : n + (longest + 1) * job .progress .lines ≤ length (q .unused) + (longest + 1) * q .job .progress .lines
 
-pub part-fits : (t : List ℤ) (job : Job) (most room : ℕ) (held l : List ℕ) → Able (job .progress) → part t job most room held l .job .progress .code ≡ 0
+pub part-fits : (t : List ℤ) (job : Job) (most room : ℕ) (held l : List ℕ) → CanBeSaved (job .progress) → part t job most room held l .job .progress .code ≡ 0
     → Fits job (length held + length l) (part t job most room held l)
 unfolding behind none
 part-fits t =
-    by-part (λ (job : Job) (n : ℕ) (q : Part). Able (job .progress) → q .job .progress .code ≡ 0 → Fits job n q) t
+    by-part (λ (job : Job) (n : ℕ) (q : Part). CanBeSaved (job .progress) → q .job .progress .code ≡ 0 → Fits job n q) t
     (λ job l a e. record { begun = e; least = omega arith; most = omega arith })
     (λ job held l q c f a e.
     let h = f (line-able t job held a .0) e in

@@ -36,8 +36,8 @@ use Rattle.job.specs.declared.Found.the-variants.{Refused, Job}
 use Rattle.job.specs.Job.{start, pack, fits, answer, read}
 use Rattle.job.specs.Part.{progress, going, after, taken, part}
 use Rattle.job.specs.Part as Part
-use Rattle.whole_job.specs.Back.{Small, small, pack-read, pack-other}
-use Rattle.whole_job.specs.Fits.{Able, Grown, Fits, part-able, part-unused, part-fits, part-accepted}
+use Rattle.whole_job.specs.Back.{InBounds, small, pack-read, pack-other}
+use Rattle.whole_job.specs.Fits.{CanBeSaved, AfterPart, Fits, part-able, part-fits, part-accepted, part-unused}
 
 -- a file after bytes were written over its bytes from place o on
 unfoldable pub put-at : ℕ → List ℕ → List ℕ → List ℕ
@@ -125,11 +125,11 @@ module _ (file text all : List ℕ) (b : List ℤ) (p : Saved) (out : List ℕ) 
   used : ℕ
   used = length input - length (Q .unused)
 
-  able-here : Able (going b p .progress)
+  able-here : CanBeSaved (going b p .progress)
   unfolding going progress
   able-here = (small p (good .able) .counts, small p (good .able) .frames)
 
-  grown : Grown (going b p) Q
+  grown : AfterPart (going b p) Q
   grown = part-able t (going b p) most (length forms) [] input able-here
 
   lines-few : Q .job .progress .lines ≤ Count.most
@@ -191,7 +191,7 @@ module _ (file text all : List ℕ) (b : List ℤ) (p : Saved) (out : List ℕ) 
   fits-next : Q .job .progress .code ≡ 0 → fits next ≡ true
   unfolding fits next going progress
   fits-next c =
-      let s : Small p = small p (good .able) in
+      let s : InBounds p = small p (good .able) in
       let f : Fits (going b p) (0 + length input) Q = part-fits t (going b p) most (length forms) [] input able-here c in
       rw (
         grown .able .0,

@@ -6,7 +6,7 @@ ghost use lib.ListN.{length, take};
 ghost use Rattle.words.specs.Words.{word, from-bytes, to-bytes, number, number-bytes, read-numbers, put-numbers};
 
 // The lesser of two lengths.
-fn lesser(a: usize, b: usize) -> usize
+pub fn lesser(a: usize, b: usize) -> usize
     ensures { λ r. ⌜ (r ≡ min a b) × (r ≤ a) × (r ≤ b) ⌝ }
 {
     if a < b { a } else { b }

@@ -1,8 +1,6 @@
 -- `block::put_word` meets its contract: one word, where the block has it.
-use mathlib.Core.Path.{_∙_}
 use native.Mathlib.Omega.{arith}
 use borrow.Author.Needs.{needs}
-use mir.Syntax.{w16}
 use mir.Facts.{toZ-ofZ}
 use Rattle.block.specs.Laws.{put-none, put-one}
 use Rattle.block.proofs.put_word.Statement.{statement}

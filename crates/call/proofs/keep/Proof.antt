@@ -18,7 +18,7 @@ abbrev μ-loop : tie.MeasureT-loop
 returns : tie.Need-returns Inv-loop μ-loop
 returns c =
     let s = c .before .before .before .args in
-    slice-none-over (s .input .now) (s .from) (s .to) (omega (arith, c .before .lesser .ensures))
+    slice-none-over (s .input .now) (s .from) (s .to) (omega (arith, c .before .lesser .ensures .0))
 
 loop-holds : tie.Need-loop-holds Inv-loop μ-loop
 loop-holds c = (search needs, (refl, let s = c .before .before .before .args in paste-zero (s .input .now) 0 (slice (s .from) (s .to) (s .input .now))))
@@ -32,7 +32,7 @@ loop-again c =
       (
         simp length-set (search needs),
         slice-move (s .input .now) (s .from) (s .to) (l .loop .input) (l .loop .i) (l .loop .inv .1 .0)
-            (omega (arith, slice-length (s .input .now) (s .from) (s .to) (m .lesser .ensures))) (l .loop .inv .1 .1),
+            (omega (arith, slice-length (s .input .now) (s .from) (s .to) (m .lesser .ensures .0))) (l .loop .inv .1 .1),
       ),
     )
 
@@ -41,8 +41,8 @@ returns-2 c =
     let l = c .before in
     let m = l .before .before in
     let s = m .before .before .args in
-    let n = slice-length (s .input .now) (s .from) (s .to) (m .lesser .ensures) in
-    (omega (arith, m .lesser .ensures), (n, slice-over (s .input .now) (s .from) (s .to) (l .loop .input) (l .loop .i) _ n (omega arith) (l .loop .inv .1 .1)))
+    let n = slice-length (s .input .now) (s .from) (s .to) (m .lesser .ensures .0) in
+    (omega (arith, m .lesser .ensures .0), (n, slice-over (s .input .now) (s .from) (s .to) (l .loop .input) (l .loop .i) _ n (omega arith) (l .loop .inv .1 .1)))
 
 pub keep-spec : {M : Type 1} → statement M
 keep-spec =

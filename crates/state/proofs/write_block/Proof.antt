@@ -10,9 +10,9 @@ use Rattle.state.proofs.write_block.Statement.{statement}
 use Rattle.state.proofs.write_block.Tie as tie
 
 -- the parameters stand
-params : (c : tie.After-write-exc) → Front state-length (c .write-exc .last .1 .0) past-place (write-params (c .before .before .before .before .args .p))
+params : (c : tie.After-write-excitation-params) → Front state-length (c .write-excitation-params .last .1 .0) past-place (write-params (c .before .before .before .before .args .p))
 unfolding write-params
-params c = c .write-exc .ensures _ (c .before .before .write-lsp .ensures refl)
+params c = c .write-excitation-params .ensures _ (c .before .before .write-lsp-params .ensures refl)
 
 slice-put : tie.Need-slice-aggregate-put
 slice-put c = sym (params (c .before .before) .whole)

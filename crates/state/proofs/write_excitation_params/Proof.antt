@@ -1,19 +1,17 @@
--- `state::write_exc` meets its contract: after each call the words up to its end stand.
+-- `state::write_excitation_params` meets its contract: after each call the words up to its end stand.
 use Prim.Native.Nat.{_<_}
 use mathlib.Core.Path.{_≡_, sym}
-use mathlib.Core.List.{List, append-assoc}
+use mathlib.Core.List.{append-assoc}
 use native.Mathlib.Omega.{arith}
 use borrow.Author.Needs.{needs}
-use lib.IntN.{ℤ}
 use lib.ListN.{length}
 use lib.Signed.{mag}
 use mir.Syntax.{w16}
-use Rattle.block.specs.Laws.{Front, front-none, front-more, front-one}
-use Rattle.block.specs.Places.{state-length, past-place}
+use Rattle.block.specs.Laws.{front-more, front-one}
 use Rattle.state.specs.declared.Params.{Params}
-use Rattle.state.specs.State.{exc-words}
-use Rattle.state.proofs.write_exc.Statement.{statement}
-use Rattle.state.proofs.write_exc.Tie as tie
+use Rattle.state.specs.State.{excitation-params}
+use Rattle.state.proofs.write_excitation_params.Statement.{statement}
+use Rattle.state.proofs.write_excitation_params.Tie as tie
 
 record Known (p : Params) : Type 0 where
   pub old : mag (p .pitch .old) < 32768
@@ -30,7 +28,7 @@ four : tie.Need-slice-aggregate-put
 four c = sym (known (c .before .before .before .before .before .before .before .before .before) .mem)
 
 returns : tie.Need-returns
-unfolding exc-words
+unfolding excitation-params
 returns c l f =
     let k4 = c .before .before .before in
     let k3 = k4 .before .before .before in
@@ -48,8 +46,8 @@ returns c l f =
     let f5 = front-one w16 (p .beta) f4 (c .put-word5 .ensures) (s .beta) (omega arith) in
     simp append-assoc at f5
 
-pub write-exc-spec : {M : Type 1} → statement M
-write-exc-spec =
+pub write-excitation-params-spec : {M : Type 1} → statement M
+write-excitation-params-spec =
     tie.close
     (tie.spec (λ c κs. search needs) (λ c κs. search needs) four (λ c κs. search needs) (λ c κs. search needs) (λ c κs. search needs)
     (λ c κs. search needs) returns)

@@ -1,19 +1,17 @@
--- `state::write_lsp` meets its contract: after each call the words up to its end stand.
+-- `state::write_lsp_params` meets its contract: after each call the words up to its end stand.
 use Prim.Native.Nat.{_<_}
 use mathlib.Core.Path.{_≡_}
-use mathlib.Core.List.{List, append-assoc}
+use mathlib.Core.List.{append-assoc}
 use native.Mathlib.Omega.{arith}
 use borrow.Author.Needs.{needs}
-use lib.IntN.{ℤ}
 use lib.ListN.{length}
 use lib.Signed.{mag}
 use mir.Syntax.{w16}
-use Rattle.block.specs.Laws.{Front, front-none, front-more, front-one}
-use Rattle.block.specs.Places.{state-length, past-place}
+use Rattle.block.specs.Laws.{front-none, front-more, front-one}
 use Rattle.state.specs.declared.Params.{Params}
-use Rattle.state.specs.State.{lsp-words}
-use Rattle.state.proofs.write_lsp.Statement.{statement}
-use Rattle.state.proofs.write_lsp.Tie as tie
+use Rattle.state.specs.State.{lsp-params}
+use Rattle.state.proofs.write_lsp_params.Statement.{statement}
+use Rattle.state.proofs.write_lsp_params.Tie as tie
 
 record Known (p : Params) : Type 0 where
   pub r0 : length (p .r0) ≡ 10
@@ -28,7 +26,7 @@ known : (c : tie.Start) → Known (c .args .p)
 known c = search needs
 
 returns : tie.Need-returns
-unfolding lsp-words
+unfolding lsp-params
 returns c h =
     let k4 = c .before .before .before .before in
     let kw = k4 .before .before .before .before in
@@ -47,8 +45,8 @@ returns c h =
     let f5 = front-more _ 10 f4 (c .put6 .ensures) (s .lsp) (omega arith) in
     simp append-assoc at f5
 
-pub write-lsp-spec : {M : Type 1} → statement M
-write-lsp-spec =
+pub write-lsp-params-spec : {M : Type 1} → statement M
+write-lsp-params-spec =
     tie.close
     (tie.spec (λ c. search needs) (λ c κs. search needs) (λ c. search needs) (λ c κs. search needs) (λ c. search needs) (λ c κs. search needs)
     (λ c. search needs) (λ c κs. search needs) (λ c κs. search needs) (λ c. search needs) (λ c κs. search needs) (λ c. search needs)
