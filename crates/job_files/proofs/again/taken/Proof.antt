@@ -1,9 +1,9 @@
--- `resume::start::taken` ends: each turn but the last leaves fewer bytes to read.
+-- `job_files::again::taken` ends: each turn but the last leaves fewer bytes to read.
 use Prim.Native.Nat.{ℕ}
 use mathlib.Core.Path.{_≡_}
 use borrow.Author.Needs.{needs}
-use Rattle.resume.proofs.start.taken.Statement.{statement}
-use Rattle.resume.proofs.start.taken.Tie as tie
+use Rattle.job_files.proofs.again.taken.Statement.{statement}
+use Rattle.job_files.proofs.again.taken.Tie as tie
 
 abbrev Inv-loop : tie.InvT-loop
 Inv-loop fd at input₀ a₀ before₀ input a before = _≡_ {A = ℕ} 0 0

@@ -1,0 +1,105 @@
+// A job resumed: everything is looked at by name or opened for reading first, in the order of the refusals, and only then something is written, by crate job_disk. Each
+// refusal is a form on standard output with line 0 and a line on standard error that says what to do, and leaves every file as it was.
+mod again;
+mod begin;
+mod names;
+mod output;
+
+use job::Saved;
+use print::FORM_ROOM;
+
+// A refusal of the table file, whose reason `files` says.
+fn refuse_tables(code: u32) {
+    let mut form = [0u8; FORM_ROOM];
+    let n = print::refused(code, 0, &mut form);
+    files::print(&form, n);
+}
+
+// OUT opened or made, and the job run.
+fn run(
+    t: &[i16; 1880],
+    b: &mut [i16; 234],
+    p: Saved,
+    most: u32,
+    call: i32,
+    state: &[u8],
+    out: &[u8],
+) {
+    let fd = output::open(out);
+    if fd < 0 {
+        return;
+    }
+    job_disk::run(t, b, p, most, call, fd, state, out);
+    libc::close(fd);
+}
+
+// The job whose call is open. A new job's state is written before OUT is made.
+fn go_on(
+    t: &[i16; 1880],
+    b: &mut [i16; 234],
+    tables: u32,
+    most: u32,
+    fd: i32,
+    call: &[u8],
+    state: &[u8],
+    aside: &[u8],
+    out: &[u8],
+) {
+    let s = begin::begin(state, tables, b);
+    if !s.good {
+        return;
+    }
+    let place = s.place;
+    if !begin::left(aside) {
+        return;
+    }
+    if !again::is_call(fd, call, place) {
+        return;
+    }
+    if !output::is_out(out, place, b) {
+        return;
+    }
+    if s.fresh {
+        if !job_disk::save(state, b, place) {
+            return;
+        }
+    }
+    run(t, b, place, most, fd, state, out);
+}
+
+// Goes on with the job of the file `state`, or begins one where there is none: at most `most` frames of `call`, to `out`.
+pub fn resume(tables: &[u8], call: &[u8], state: &[u8], out: &[u8], most: u32) {
+    let mut t = [0i16; 1880];
+    let mut b = [0i16; 234];
+    let checked = files::tables(tables, &mut t, &mut b);
+    if checked.code != 0 {
+        refuse_tables(checked.code);
+        return;
+    }
+    let mut aside = io::buffer();
+    let n = job::names::aside(state, &mut aside);
+    if n == 0 {
+        files::say(state, b"the name is too long: take one of at most 4,091 bytes");
+        return;
+    }
+    if !names::usable(tables, call, state, out, &aside[0..n]) {
+        return;
+    }
+    let fd = os::open_read(call);
+    if fd < 0 {
+        os::fail(call);
+        return;
+    }
+    go_on(
+        &t,
+        &mut b,
+        checked.sum,
+        most,
+        fd,
+        call,
+        state,
+        &aside[0..n],
+        out,
+    );
+    libc::close(fd);
+}

@@ -1,0 +1,81 @@
+// OUT: whether it is this job's, and opened for writing.
+use job::Saved;
+use job::parts;
+use job_step::TAIL_ROOM;
+use print::FRAME_ROOM;
+
+// An OUT that isn't this job's.
+fn refuse(name: &[u8], code: u32, p: Saved) -> bool {
+    if p.written == 0 {
+        files::refuse(
+            code,
+            name,
+            b"not an output of these programs, so a new job doesn't write over it: move it away, or name another OUT",
+        );
+    } else {
+        files::refuse(
+            code,
+            name,
+            b"not this job's: missing, shorter than what the state has written, or with other samples there; take the OUT that belongs to STATE, or delete STATE and begin anew",
+        );
+    }
+    false
+}
+
+// Whether an OUT of this length, with these first bytes and these at the place where the job goes on, is this job's.
+fn check(name: &[u8], p: Saved, b: &[i16; 234], length: u64, front: &[u8], tail: &[u8]) -> bool {
+    let code = job_step::out_check(p, b, length, front, tail);
+    if code != 0 {
+        return refuse(name, code, p);
+    }
+    true
+}
+
+// The same for an open OUT.
+fn check_open(fd: i32, name: &[u8], p: Saved, b: &[i16; 234], length: u64) -> bool {
+    let mut front = [0u8; FRAME_ROOM];
+    let mut tail = [0u8; TAIL_ROOM];
+    let first = libc::pread(fd, &mut front, 0);
+    let last = libc::pread(fd, &mut tail, parts::position(job_step::tail_at(p)));
+    if first < 0 || last < 0 {
+        os::fail(name);
+        return false;
+    }
+    let n = io::count(first, &front);
+    let m = io::count(last, &tail);
+    check(name, p, b, length, &front[0..n], &tail[0..m])
+}
+
+// Whether OUT is this job's, as far as it is there.
+pub(crate) fn is_out(name: &[u8], p: Saved, b: &[i16; 234]) -> bool {
+    let seen = files::look(name);
+    if !seen.there {
+        return check(name, p, b, 0, b"", b"");
+    }
+    let fd = os::open_read(name);
+    if fd < 0 {
+        os::fail(name);
+        return false;
+    }
+    let own = check_open(fd, name, p, b, seen.length);
+    libc::close(fd);
+    own
+}
+
+// Opens OUT, or makes it; below 0, with a message, where that fails.
+pub(crate) fn open(name: &[u8]) -> i32 {
+    let fd = os::open_update(name);
+    if 0 <= fd {
+        return fd;
+    }
+    if os::errno() != libc::ENOENT {
+        os::fail(name);
+        return fd;
+    }
+    let made = os::create(name);
+    if made < 0 {
+        os::fail(name);
+    }
+    job_disk::sync_folder(name);
+    made
+}
