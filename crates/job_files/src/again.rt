@@ -1,26 +1,42 @@
 // The call of a job, read again up to the place where it goes on.
-use job::Saved;
+ghost use Rattle.job_files.specs.Reads.{Reads};
 use job::parts;
 use job::parts::Again;
 
-// One read more of the call, of which `at` bytes were taken.
-fn read_more(fd: i32, at: u64, a: Again, input: &mut [u8]) -> Again {
+// Bytes that were read, of a call of which `at` bytes were taken.
+fn count(a: Again, at: u64, bytes: &[u8]) -> Again
+    requires { ⌜ Reads at a ⌝ }
+    ensures { λ r. ⌜ Reads at r ⌝ }
+{
+    parts::read_again(a, bytes)
+}
+
+// One read more.
+fn read_more(fd: i32, at: u64, a: Again, input: &mut [u8]) -> Again
+    requires { ⌜ Reads at a ⌝ }
+    ensures { λ r. ⌜ Reads at r ⌝ }
+{
     let got = libc::pread(
         fd,
         input,
         parts::position(std::num::wrapping_sub_u64(at, a.left)),
     );
     let n = io::count(got, input);
-    parts::read_again(a, &input[0..n])
+    count(a, at, &input[0..n])
 }
 
 // The same on a whole buffer.
-fn read_turn(fd: i32, at: u64, a: Again, input: &mut [u8; 65536]) -> Again {
+fn read_turn(fd: i32, at: u64, a: Again, input: &mut [u8; 65536]) -> Again
+    requires { ⌜ Reads at a ⌝ }
+    ensures { λ r. ⌜ Reads at r ⌝ }
+{
     read_more(fd, at, a, input)
 }
 
 // The bytes of the call that were taken, read again until they are all there or nothing more is read.
-fn taken(fd: i32, at: u64) -> Again {
+pub(crate) fn taken(fd: i32, at: u64) -> Again
+    ensures { λ r. ⌜ Reads at r ⌝ }
+{
     let mut input = io::large_buffer();
     let mut a = Again { sum: 0, left: at };
     let mut before = 18446744073709551615u64;
@@ -31,27 +47,22 @@ fn taken(fd: i32, at: u64) -> Again {
     a
 }
 
-// Whether the file can be read at this place, or ends there.
-fn readable(fd: i32, at: u64) -> bool {
+// Whether the call can be read behind the bytes that were read again, or ends there.
+pub(crate) fn readable(fd: i32, at: u64, a: Again, name: &[u8]) -> bool {
     let mut next = [0u8; 1];
-    0 <= libc::pread(fd, &mut next, parts::position(at))
-}
-
-// Whether the open call is the one that the job was begun with.
-pub(crate) fn is_call(fd: i32, name: &[u8], p: Saved) -> bool {
-    let a = taken(fd, p.at);
-    if !readable(fd, std::num::wrapping_sub_u64(p.at, a.left)) {
+    let place = parts::position(std::num::wrapping_sub_u64(at, a.left));
+    if libc::pread(fd, &mut next, place) < 0 {
         os::fail(name);
         return false;
     }
-    let code = parts::call_check(p, a);
-    if code != 0 {
-        files::refuse(
-            code,
-            name,
-            b"another call than the one that this job was begun with, or shorter: take the right CALL",
-        );
-        return false;
-    }
     true
+}
+
+// Another call than the one that the job was begun with.
+pub(crate) fn refuse(code: u32, name: &[u8]) {
+    files::refuse(
+        code,
+        name,
+        b"another call than the one that this job was begun with, or shorter: take the right CALL",
+    );
 }

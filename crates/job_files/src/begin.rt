@@ -1,4 +1,5 @@
 // The state file, and what an earlier run may have left beside it.
+use files::Seen;
 use job::Found;
 use job::Saved;
 
@@ -104,8 +105,7 @@ fn own(name: &[u8], length: u64) -> bool {
 }
 
 // Whether STATE.new, where the next state is written aside, is missing or was left there by this program. It is opened only where it is a file, since a pipe would wait.
-pub(crate) fn left(name: &[u8]) -> bool {
-    let seen = files::look(name);
+pub(crate) fn left(name: &[u8], seen: Seen) -> bool {
     let link = files::is_link(name);
     if !link && (!seen.there || (seen.regular && own(name, seen.length))) {
         return true;

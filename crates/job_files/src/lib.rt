@@ -1,11 +1,16 @@
 // A job resumed: everything is looked at by name or opened for reading first, in the order of the refusals, and only then something is written, by crate job_disk. Each
 // refusal is a form on standard output with line 0 and a line on standard error that says what to do, and leaves every file as it was.
+ghost use mathlib.Core.Path.{_≡_};
+ghost use Rattle.job.specs.Part.{call-check};
+ghost use Rattle.job_files.specs.Reads.{Reads};
 mod again;
 mod begin;
 mod names;
 mod output;
 
 use job::Saved;
+use job::parts::Again;
+use names::Names;
 use print::FORM_ROOM;
 
 // A refusal of the table file, whose reason `files` says.
@@ -15,17 +20,21 @@ fn refuse_tables(code: u32) {
     files::print(&form, n);
 }
 
-// OUT opened or made, and the job run.
+// OUT opened or made, and the job run, whose call was read again.
 fn run(
     t: &[i16; 1880],
     b: &mut [i16; 234],
     p: Saved,
+    a: Again,
     most: u32,
     call: i32,
     state: &[u8],
     out: &[u8],
-) {
-    let fd = output::open(out);
+    there: bool,
+)
+    requires { ⌜ Reads (p .at) a × (call-check p a ≡ 0) ⌝ }
+{
+    let fd = output::open(out, there);
     if fd < 0 {
         return;
     }
@@ -39,6 +48,7 @@ fn go_on(
     b: &mut [i16; 234],
     tables: u32,
     most: u32,
+    n: Names,
     fd: i32,
     call: &[u8],
     state: &[u8],
@@ -50,13 +60,20 @@ fn go_on(
         return;
     }
     let place = s.place;
-    if !begin::left(aside) {
+    if !begin::left(aside, n.aside) {
         return;
     }
-    if !again::is_call(fd, call, place) {
+    let a = again::taken(fd, place.at);
+    if !again::readable(fd, place.at, a, call) {
         return;
     }
-    if !output::is_out(out, place, b) {
+    let code = job::parts::call_check(place, a);
+    if code != 0 {
+        again::refuse(code, call);
+        return;
+    }
+    let o = n.out;
+    if !output::is_out(out, o, place, b) {
         return;
     }
     if s.fresh {
@@ -64,25 +81,26 @@ fn go_on(
             return;
         }
     }
-    run(t, b, place, most, fd, state, out);
+    run(t, b, place, a, most, fd, state, out, o.there);
 }
 
-// Goes on with the job of the file `state`, or begins one where there is none: at most `most` frames of `call`, to `out`.
-pub fn resume(tables: &[u8], call: &[u8], state: &[u8], out: &[u8], most: u32) {
-    let mut t = [0i16; 1880];
-    let mut b = [0i16; 234];
-    let checked = files::tables(tables, &mut t, &mut b);
-    if checked.code != 0 {
-        refuse_tables(checked.code);
+// The job whose tables are read: the names are looked at, and the call opened.
+fn open(
+    t: &[i16; 1880],
+    b: &mut [i16; 234],
+    sum: u32,
+    most: u32,
+    tables: &[u8],
+    call: &[u8],
+    state: &[u8],
+    aside: &[u8],
+    out: &[u8],
+) {
+    let n = names::look(tables, call, state, out, aside);
+    if !n.good {
         return;
     }
-    let mut aside = io::buffer();
-    let n = job::names::aside(state, &mut aside);
-    if n == 0 {
-        files::say(state, b"the name is too long: take one of at most 4,091 bytes");
-        return;
-    }
-    if !names::usable(tables, call, state, out, &aside[0..n]) {
+    if !names::usable(n, call, state, out, aside) {
         return;
     }
     let fd = os::open_read(call);
@@ -90,16 +108,35 @@ pub fn resume(tables: &[u8], call: &[u8], state: &[u8], out: &[u8], most: u32) {
         os::fail(call);
         return;
     }
-    go_on(
+    go_on(t, b, sum, most, n, fd, call, state, aside, out);
+    libc::close(fd);
+}
+
+// Goes on with the job of the file `state`, or begins one where there is none: at most `most` frames of `call`, to `out`.
+pub fn resume(tables: &[u8], call: &[u8], state: &[u8], out: &[u8], most: u32) {
+    let mut t = [0i16; 1880];
+    let mut b = [0i16; 234];
+    let checked = files::tables(tables, &mut t, &mut b);
+    let sum = checked.sum;
+    if checked.code != 0 {
+        refuse_tables(checked.code);
+        return;
+    }
+    let mut aside = io::buffer();
+    let n = job::names::aside(state, &mut aside);
+    if n == 0 {
+        files::say(state, b"the name is too long for a file beside it");
+        return;
+    }
+    open(
         &t,
         &mut b,
-        checked.sum,
+        sum,
         most,
-        fd,
+        tables,
         call,
         state,
         &aside[0..n],
         out,
     );
-    libc::close(fd);
 }

@@ -2,9 +2,87 @@
 use files::Seen;
 use job_step::File;
 
+// The files of a job as they were found; not good where that could not be told.
+pub(crate) struct Names {
+    pub tables: Seen,
+    pub call: Seen,
+    pub state: Seen,
+    pub out: Seen,
+    pub aside: Seen,
+    pub good: bool,
+}
+
+// Whether a file was found or is missing; where neither could be told, the system's reason is said.
+fn told(s: Seen, name: &[u8]) -> bool {
+    if s.there || os::errno() == libc::ENOENT {
+        return true;
+    }
+    os::fail(name);
+    false
+}
+
+// Looks at each file once.
+pub(crate) fn look(tables: &[u8], call: &[u8], state: &[u8], out: &[u8], aside: &[u8]) -> Names {
+    let t = files::look(tables);
+    let known_tables = told(t, tables);
+    let c = files::look(call);
+    let known_call = told(c, call);
+    let s = files::look(state);
+    let known_state = told(s, state);
+    let o = files::look(out);
+    let known_out = told(o, out);
+    let n = files::look(aside);
+    let known_aside = told(n, aside);
+    Names {
+        tables: t,
+        call: c,
+        state: s,
+        out: o,
+        aside: n,
+        good: known_tables & known_call & known_state & known_out & known_aside,
+    }
+}
+
 fn refuse(name: &[u8], what: &[u8]) -> bool {
     files::refuse(28, name, what);
     false
+}
+
+// Whether a file is missing or a regular one.
+fn plain(s: Seen) -> bool {
+    !s.there | s.regular
+}
+
+// Whether CALL, STATE and OUT are files, as far as they are there.
+fn are_files(n: Names, call: &[u8], state: &[u8], out: &[u8]) -> bool {
+    if !plain(n.call) {
+        return refuse(
+            call,
+            b"a job reads its call again at any place, so it has to be a file; `decode` reads pipes",
+        );
+    }
+    if !plain(n.state) {
+        return refuse(state, b"not a file: name a file as STATE");
+    }
+    if !plain(n.out) {
+        return refuse(out, b"not a file: name a file as OUT");
+    }
+    true
+}
+
+// Whether STATE and OUT are no links that a job can't follow: a new state would take the link's place, and OUT can't be made where a link leads nowhere.
+fn no_links(n: Names, state: &[u8], out: &[u8]) -> bool {
+    if files::is_link(state) {
+        return refuse(
+            state,
+            b"a link, whose place the next state would take: name the file that it leads to as STATE",
+        );
+    }
+    let o = n.out;
+    if !o.there && files::is_link(out) {
+        return refuse(out, b"a link that leads nowhere: name a file as OUT");
+    }
+    true
 }
 
 fn file(s: Seen) -> File {
@@ -15,10 +93,6 @@ fn file(s: Seen) -> File {
     }
 }
 
-fn look(name: &[u8]) -> File {
-    file(files::look(name))
-}
-
 fn missing() -> File {
     File {
         there: false,
@@ -27,49 +101,37 @@ fn missing() -> File {
     }
 }
 
-// Whether a file is missing or a regular one.
-fn plain(name: &[u8]) -> bool {
-    let s = files::look(name);
-    !s.there | s.regular
-}
-
-// Whether CALL, STATE and OUT are files, as far as they are there.
-fn are_files(call: &[u8], state: &[u8], out: &[u8]) -> bool {
-    if !plain(call) {
-        return refuse(
-            call,
-            b"a job reads its call again at any place, so it has to be a file; `decode` reads pipes",
-        );
+// Whether the files that are there are different ones.
+fn are_apart(n: Names, call: &[u8], state: &[u8], out: &[u8]) -> bool {
+    let t = file(n.tables);
+    let c = file(n.call);
+    let s = file(n.state);
+    let o = file(n.out);
+    let a = file(n.aside);
+    let none = missing();
+    if !job_step::apart(t, c, none, none, none) {
+        return refuse(call, b"this is the table file: name the call as CALL");
     }
-    if !plain(state) {
-        return refuse(state, b"not a file: name a file as STATE");
-    }
-    if !plain(out) {
-        return refuse(out, b"not a file: name a file as OUT");
-    }
-    true
-}
-
-// Whether STATE and OUT are no links that a job can't follow: a new state would take the link's place, and OUT can't be made where a link leads nowhere.
-fn no_links(state: &[u8], out: &[u8]) -> bool {
-    if files::is_link(state) {
+    if !job_step::apart(t, c, s, none, a) {
         return refuse(
             state,
-            b"a link, whose place the next state would take: name the file that it leads to as STATE",
+            b"this, or the file with `.new` behind its name, is CALL or the table file: name another STATE",
         );
     }
-    let seen = files::look(out);
-    if files::is_link(out) && !seen.there {
-        return refuse(out, b"a link that leads nowhere: name a file as OUT");
+    if !job_step::apart(t, c, s, o, a) {
+        return refuse(
+            out,
+            b"this is CALL, STATE, STATE.new or the table file, and would be written over: name another OUT",
+        );
     }
     true
 }
 
 fn folder(name: &[u8]) -> File {
     if name.len() == 0 {
-        return look(b".");
+        return file(files::look(b"."));
     }
-    look(name)
+    file(files::look(name))
 }
 
 // Whether two names mean one place of one folder. So two files that are not there yet are seen to be one.
@@ -83,41 +145,15 @@ fn one_place(a: &[u8], b: &[u8]) -> bool {
     !job_step::apart(folder(&a[0..n]), folder(&b[0..m]), none, none, none)
 }
 
-// Whether the files that are there are different ones.
-fn apart(tables: &[u8], call: &[u8], state: &[u8], out: &[u8], aside: &[u8]) -> bool {
-    let t = look(tables);
-    let c = look(call);
-    let s = look(state);
-    let o = look(out);
-    let n = look(aside);
-    let none = missing();
-    if !job_step::apart(t, c, none, none, none) {
-        return refuse(call, b"this is the table file: name the call as CALL");
-    }
-    if !job_step::apart(t, c, s, none, n) {
-        return refuse(
-            state,
-            b"this, or the file beside it with `.new` behind its name, is CALL or the table file: name another STATE",
-        );
-    }
-    if !job_step::apart(t, c, s, o, n) {
-        return refuse(
-            out,
-            b"this is CALL, STATE, STATE.new or the table file, and would be written over: name another OUT",
-        );
-    }
-    true
-}
-
-// Whether these five names are those of files that a job can use.
-pub(crate) fn usable(tables: &[u8], call: &[u8], state: &[u8], out: &[u8], aside: &[u8]) -> bool {
-    if !are_files(call, state, out) {
+// Whether a job can use the files of these names.
+pub(crate) fn usable(n: Names, call: &[u8], state: &[u8], out: &[u8], aside: &[u8]) -> bool {
+    if !are_files(n, call, state, out) {
         return false;
     }
-    if !no_links(state, out) {
+    if !no_links(n, state, out) {
         return false;
     }
-    if !apart(tables, call, state, out, aside) {
+    if !are_apart(n, call, state, out) {
         return false;
     }
     if one_place(out, state) | one_place(out, aside) {

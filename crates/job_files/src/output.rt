@@ -1,4 +1,5 @@
 // OUT: whether it is this job's, and opened for writing.
+use files::Seen;
 use job::Saved;
 use job::parts;
 use job_step::TAIL_ROOM;
@@ -47,8 +48,7 @@ fn check_open(fd: i32, name: &[u8], p: Saved, b: &[i16; 234], length: u64) -> bo
 }
 
 // Whether OUT is this job's, as far as it is there.
-pub(crate) fn is_out(name: &[u8], p: Saved, b: &[i16; 234]) -> bool {
-    let seen = files::look(name);
+pub(crate) fn is_out(name: &[u8], seen: Seen, p: Saved, b: &[i16; 234]) -> bool {
     if !seen.there {
         return check(name, p, b, 0, b"", b"");
     }
@@ -62,20 +62,24 @@ pub(crate) fn is_out(name: &[u8], p: Saved, b: &[i16; 234]) -> bool {
     own
 }
 
-// Opens OUT, or makes it; below 0, with a message, where that fails.
-pub(crate) fn open(name: &[u8]) -> i32 {
-    let fd = os::open_update(name);
+// Makes OUT.
+fn make(name: &[u8]) -> i32 {
+    let fd = os::create(name);
     if 0 <= fd {
-        return fd;
+        job_disk::sync_folder(name);
     }
-    if os::errno() != libc::ENOENT {
+    fd
+}
+
+// Opens OUT where it was found, or makes it; below 0, with a message, where that fails.
+pub(crate) fn open(name: &[u8], there: bool) -> i32 {
+    let fd = if there {
+        os::open_update(name)
+    } else {
+        make(name)
+    };
+    if fd < 0 {
         os::fail(name);
-        return fd;
     }
-    let made = os::create(name);
-    if made < 0 {
-        os::fail(name);
-    }
-    job_disk::sync_folder(name);
-    made
+    fd
 }

@@ -38,7 +38,18 @@ fn run(a: Asked, most: u32) {
     );
 }
 
+// Takes the number of a standard descriptor that is closed, so that no file of the job gets it and has messages written over its bytes.
+fn fill() {
+    let fd = os::open_read(b"/dev/null");
+    if STDERR_FILENO < fd {
+        libc::close(fd);
+    }
+}
+
 fn main() {
+    fill();
+    fill();
+    fill();
     let usage = USAGE;
     let a = files::asked(3, 4);
     let answered = files::answered(

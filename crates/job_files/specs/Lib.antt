@@ -1,0 +1,2 @@
+-- The definition that the contracts of `job_files` cite.
+pub mod Reads

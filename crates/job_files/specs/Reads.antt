@@ -1,0 +1,10 @@
+-- A call read again from its beginning on, as far as a job has taken it.
+use mathlib.Core.List.{List}
+use Prim.Native.Nat.{ℕ}
+use Rattle.job.specs.declared.parts.Again.{Again}
+use Rattle.job.specs.Part.{read-again}
+
+-- what reads, one behind another, leave of so many bytes
+pub data Reads : ℕ → Again → Type 0 where
+  none : (at : ℕ) → Reads at (record { sum = 0; left = at })
+  more : {at : ℕ} {a : Again} → Reads at a → (l : List ℕ) → Reads at (read-again a l)
