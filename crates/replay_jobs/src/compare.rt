@@ -1,18 +1,12 @@
-// Files compared and summed.
+// Files compared.
 use libc::STDOUT_FILENO;
 use words::lesser;
 
-// How many bytes of two files were read, how many differ, and whether there may be more.
+// How many bytes of two files were read, how many differ, the CRC-32 of the first, and whether there may be more.
 struct Compared {
     first: u64,
     second: u64,
     differ: u64,
-    more: bool,
-}
-
-// How many bytes one file has, their CRC-32, and whether there may be more.
-struct Summed {
-    bytes: u64,
     sum: u32,
     more: bool,
 }
@@ -50,10 +44,12 @@ fn compare_chunk(a: i32, b: i32, c: Compared, x: &mut [u8], y: &mut [u8]) -> Com
     let n = io::read_full(a, x);
     let m = io::read_full(b, y);
     let differ = differing(&x[0..n], &y[0..m]);
+    let sum = crc32::more(c.sum, &x[0..n]);
     Compared {
         first: std::num::wrapping_add_u64(c.first, n as u64),
         second: std::num::wrapping_add_u64(c.second, m as u64),
         differ: std::num::wrapping_add_u64(c.differ, differ),
+        sum,
         more: (0 < n) | (0 < m),
     }
 }
@@ -68,6 +64,7 @@ fn compare(a: i32, b: i32) -> Compared {
         first: 0,
         second: 0,
         differ: 0,
+        sum: 0,
         more: true,
     };
     let mut most = job::parts::ALL;
@@ -87,45 +84,9 @@ pub(crate) fn same(a: &[u8], b: &[u8]) {
     say_bytes(y, c.second);
     say(b", differ ");
     io::print_decimal(STDOUT_FILENO, c.differ);
+    say(b", CRC-32 ");
+    io::print_hex(STDOUT_FILENO, c.sum as u64, 8);
     say(b"\n");
     libc::close(x);
     libc::close(y);
-}
-
-// One chunk more of a file.
-fn sum_chunk(fd: i32, s: Summed, space: &mut [u8]) -> Summed {
-    let n = io::read_full(fd, space);
-    let sum = crc32::more(s.sum, &space[0..n]);
-    Summed {
-        bytes: std::num::wrapping_add_u64(s.bytes, n as u64),
-        sum,
-        more: 0 < n,
-    }
-}
-
-// An open file.
-fn sum(fd: i32) -> Summed {
-    let mut buffer = io::large_buffer();
-    let space: &mut [u8] = &mut buffer;
-    let mut s = Summed {
-        bytes: 0,
-        sum: 0,
-        more: true,
-    };
-    let mut most = job::parts::ALL;
-    while 0 < most {
-        s = sum_chunk(fd, s, space);
-        most = replay::rest(most, s.more);
-    }
-    s
-}
-
-pub(crate) fn look(name: &[u8]) {
-    let fd = os::open_read(name);
-    let s = sum(fd);
-    say_bytes(fd, s.bytes);
-    say(b", CRC-32 ");
-    io::print_hex(STDOUT_FILENO, s.sum as u64, 8);
-    say(b"\n");
-    libc::close(fd);
 }

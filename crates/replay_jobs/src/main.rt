@@ -4,8 +4,7 @@
 //   copy FROM TO N                        TO is the first N bytes of FROM, all where N is no number
 //   add FROM TO N                         TO gets FROM's bytes behind its own, N times
 //   damage FILE AT                        byte AT is raised by one; 1 where there is none
-//   same A B                              how many bytes both have, and how many differ as far as both go
-//   look FILE                             how many bytes it has, and their CRC-32
+//   same A B                              how many bytes both have, how many differ as far as both go, and the CRC-32 of A
 //   unlink FILE
 //   mkdir FOLDER
 ghost use Prim.Native.Nat.{_≤_, _<_};
@@ -16,50 +15,18 @@ mod word;
 
 use libc::STDIN_FILENO;
 use libc::STDOUT_FILENO;
+use word::number;
+use word::word;
 
 // A job, which prints its form.
 fn resume(line: &[u8]) {
-    let a = word::start(line, 1);
-    let b = word::end(line, a);
-    let c = word::start(line, 2);
-    let d = word::end(line, c);
-    let e = word::start(line, 3);
-    let f = word::end(line, e);
-    let g = word::start(line, 4);
-    let h = word::end(line, g);
-    let most = word::number(line, 5);
-    job_files::resume(&line[a..b], &line[c..d], &line[e..f], &line[g..h], most);
-}
-
-// A step on one file.
-fn one(letter: u8, line: &[u8]) {
-    let a = word::start(line, 1);
-    let b = word::end(line, a);
-    let n = word::number(line, 2);
-    match letter {
-        b'd' => copies::damage(&line[a..b], n),
-        b'l' => compare::look(&line[a..b]),
-        b'u' => {
-            os::unlink(&line[a..b]);
-        }
-        _ => {
-            os::mkdir(&line[a..b]);
-        }
-    }
-}
-
-// A step on two files.
-fn two(letter: u8, line: &[u8]) {
-    let a = word::start(line, 1);
-    let b = word::end(line, a);
-    let c = word::start(line, 2);
-    let d = word::end(line, c);
-    let n = word::number(line, 3);
-    match letter {
-        b'a' => copies::add(&line[a..b], &line[c..d], n),
-        b'c' => copies::copy(&line[a..b], &line[c..d], n),
-        _ => compare::same(&line[a..b], &line[c..d]),
-    }
+    job_files::resume(
+        word(line, 1),
+        word(line, 2),
+        word(line, 3),
+        word(line, 4),
+        number(line, 5),
+    );
 }
 
 // The step of a line.
@@ -69,11 +36,20 @@ fn step(line: &[u8]) {
     if line.len() == 0 {
         return;
     }
-    let letter = line[0];
-    match letter {
+    let a = word(line, 1);
+    let b = word(line, 2);
+    match line[0] {
         b'r' => resume(line),
-        b'a' | b'c' | b's' => two(letter, line),
-        b'd' | b'l' | b'u' | b'm' => one(letter, line),
+        b'c' => copies::copy(a, b, number(line, 3)),
+        b'a' => copies::add(a, b, number(line, 3)),
+        b'd' => copies::damage(a, number(line, 2)),
+        b's' => compare::same(a, b),
+        b'u' => {
+            os::unlink(a);
+        }
+        b'm' => {
+            os::mkdir(a);
+        }
         _ => {}
     }
 }
