@@ -3,6 +3,7 @@
 ghost use mathlib.Core.Path.{_≡_};
 ghost use Rattle.job.specs.Part.{call-check};
 ghost use Rattle.job_files.specs.Reads.{Reads};
+
 mod again;
 mod begin;
 mod names;

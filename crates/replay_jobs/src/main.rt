@@ -1,5 +1,5 @@
 // Runs jobs as the program `resume` does, and compares the files that they leave. Standard input has a step a line, its words apart by single blanks; its first letter tells
-// which. Each is printed, and behind it what came of it (oracle/README.md says how steps and files are made):
+// which. Each is printed, and behind it what came of it (oracle/jobs writes the steps and the files):
 //   resume TABLES CALL STATE OUT FRAMES   a job; all frames where FRAMES is no number
 //   copy FROM TO N                        TO is the first N bytes of FROM, all where N is no number
 //   add FROM TO N                         TO gets FROM's bytes behind its own, N times
@@ -9,6 +9,7 @@
 //   mkdir FOLDER
 ghost use Prim.Native.Nat.{_≤_, _<_};
 ghost use lib.ListN.{length};
+
 mod compare;
 mod copies;
 mod word;

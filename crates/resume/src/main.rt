@@ -29,13 +29,7 @@ fn run(a: Asked, most: u32) {
     let c = files::argument(a.first, b"", &mut call);
     let s = files::argument(a.second, b"", &mut state);
     let o = files::argument(a.third, b"", &mut out);
-    job_files::resume(
-        &tables[0..t],
-        &call[0..c],
-        &state[0..s],
-        &out[0..o],
-        most,
-    );
+    job_files::resume(&tables[0..t], &call[0..c], &state[0..s], &out[0..o], most);
 }
 
 // Takes the number of a standard descriptor that is closed, so that no file of the job gets it and has messages written over its bytes.
