@@ -2,6 +2,7 @@
 use mathlib.Core.Path.{_≡_, refl, sym}
 use Prim.Native.Nat.{_-_, _≤_}
 use native.Mathlib.Omega.{arith}
+use native.Mathlib.Nat.{zero-add}
 use lib.ListN.{length, take}
 use lib.Seq.{take-all}
 use borrow.Author.Needs.{needs}
@@ -25,13 +26,13 @@ returns-2 c =
     let l = c .before .before .before .before in
     let a = l .before .before .args in
     let t : take (length (a .text .now)) (a .word .now) ≡ a .word .now = take-all (length (a .text .now)) (a .word .now) (omega arith) in
-    sym (rw t at (match-not (a .word .now) (a .text .now) 0 (l .loop .i) (omega arith) (c .if2 .taken)))
+    sym (rw t at (match-not (a .word .now) (a .text .now) 0 (l .loop .i) (omega arith) (rw zero-add (c .if2 .taken))))
 
 loop-again : tie.Need-loop-again Inv-loop μ-loop
 loop-again c =
     let l = c .before .before .before .before in
     let a = l .before .before .args in
-    (search needs, match-more (a .word .now) (a .text .now) 0 (l .loop .i) (omega arith) (omega arith) (l .loop .inv .1) (c .if2 .left))
+    (search needs, match-more (a .word .now) (a .text .now) 0 (l .loop .i) (omega arith) (omega arith) (l .loop .inv .1) (rw zero-add (c .if2 .left)))
 
 returns-3 : tie.Need-returns-3 Inv-loop μ-loop
 returns-3 c =
