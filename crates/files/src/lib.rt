@@ -1,8 +1,7 @@
 // What the programs share: the words of the command line, messages, the table file, and which file a name means. No contract can say what is read or written; what is
 // decided is decided on slices (`options`, `call`).
-ghost use Prim.Native.Nat.{_<_};
+ghost use Prim.Native.Nat.{_≤_, _<_};
 ghost use lib.ListN.{length};
-ghost use Rattle.io.specs.Counts.{Counts};
 mod path;
 
 pub use path::Seen;
@@ -71,17 +70,24 @@ pub fn asked(least: usize, most: usize) -> Asked {
     options::ended(a, least)
 }
 
+// A text at the front of `room`; how many bytes it has, 0 and nothing written where it does not fit.
+pub(crate) fn put(text: &[u8], room: &mut [u8]) -> usize
+    ensures { λ r. ⌜ r ≤ length (now (room .exit)) ⌝ }
+{
+    if text.len() <= room.len() {
+        return bytes::copy(text, room);
+    }
+    0
+}
+
 // Argument i at the front of `name`, or the default where i is 0; how many bytes it has, 0 where there is no such argument or it does not fit.
 pub fn argument(i: usize, default: &[u8], name: &mut [u8]) -> usize
-    ensures { λ r. ⌜ Counts r (now (name .exit)) ⌝ }
+    ensures { λ r. ⌜ r ≤ length (now (name .exit)) ⌝ }
 {
     if i != 0 {
         return os::arg(i, name);
     }
-    if default.len() <= name.len() {
-        return bytes::copy(default, name);
-    }
-    0
+    put(default, name)
 }
 
 // Why a line can't be taken, in words.
@@ -128,7 +134,7 @@ pub fn answered(a: Asked, program: &[u8], usage: &[u8], more: &[u8]) -> bool {
 // The bytes of a file at the front of `file`. A file of tables that fits with a byte to spare is whole; where there are fewer bytes, one read more tells an error from the end.
 fn read(name: &[u8], file: &mut [u8]) -> Loaded
     requires { ⌜ 3760 < length (now file) ⌝ }
-    ensures { λ r. ⌜ Counts (r .length) (now (file .exit)) ⌝ }
+    ensures { λ r. ⌜ r .length ≤ length (now (file .exit)) ⌝ }
 {
     let fd = os::open_read(name);
     if fd < 0 {

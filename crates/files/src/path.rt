@@ -1,6 +1,7 @@
 // Which file a name means (POSIX stat and readlink): nothing is opened, so that a named pipe doesn't make the program wait.
 ghost use mathlib.Core.Path.{_≡_};
 ghost use Rattle.libc.specs.Io.{Ended};
+use crate::put;
 use libc::PATH_MAX;
 use libc::types::stat;
 use libc::types::timespec;
@@ -17,7 +18,7 @@ pub struct Seen {
 }
 
 // What `stat` answered, and what it wrote.
-struct Told {
+struct Answer {
     status: i32,
     known: stat,
 }
@@ -32,10 +33,7 @@ fn ended(path: &[u8]) -> [u8; PATH_MAX]
     ensures { λ r. ⌜ Ended r ⌝ }
 {
     let mut text = io::buffer();
-    let view: &mut [u8] = &mut text;
-    if path.len() <= view.len() {
-        bytes::copy(path, view);
-    }
+    put(path, &mut text);
     text[LAST] = 0;
     text
 }
@@ -70,12 +68,12 @@ fn blank() -> stat {
 }
 
 // POSIX's stat.
-fn told(path: &[u8; PATH_MAX], from: stat) -> Told
+fn ask(path: &[u8; PATH_MAX], from: stat) -> Answer
     requires { ⌜ Ended (now path) ⌝ }
 {
     let mut known = from;
     let status = libc::stat(path, &mut known);
-    Told { status, known }
+    Answer { status, known }
 }
 
 // A length as a number that is not below 0.
@@ -99,11 +97,11 @@ pub fn look(path: &[u8]) -> Seen {
         return missing();
     }
     let text = ended(path);
-    let told = told(&text, blank());
-    if told.status < 0 {
+    let answer = ask(&text, blank());
+    if answer.status < 0 {
         return missing();
     }
-    let known = told.known;
+    let known = answer.known;
     Seen {
         there: true,
         regular: known.st_mode / 4096 % 16 == 8,
