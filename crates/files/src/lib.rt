@@ -1,15 +1,17 @@
 // What the programs share: the words of the command line, messages, the table file, and which file a name means. No contract can say what is read or written; what is
 // decided is decided on slices (`options`, `call`).
+ghost use mathlib.Core.Path.{_≡_};
 ghost use Prim.Native.Nat.{_≤_, _<_};
 ghost use lib.ListN.{length};
+
 mod path;
 
-pub use path::Seen;
-pub use path::is_link;
-pub use path::look;
 use libc::STDERR_FILENO;
 use libc::STDOUT_FILENO;
 use options::Asked;
+pub use path::Seen;
+pub use path::is_link;
+pub use path::look;
 use print::FORM_ROOM;
 
 // One byte more than the tables have, so that a longer file is noticed.
@@ -35,11 +37,20 @@ pub fn say(name: &[u8], what: &[u8]) {
     io::write_all(STDERR_FILENO, b"\n");
 }
 
+// Writes to standard output. False, with a message, where not all could be written.
+pub fn write(text: &[u8]) -> bool {
+    let done = io::write_all(STDOUT_FILENO, text);
+    if !done {
+        os::fail(b"standard output");
+    }
+    done
+}
+
 // The first n bytes of a form, on standard output.
 pub fn print(form: &[u8; FORM_ROOM], n: usize) {
     let view = &form[..];
     if n <= view.len() {
-        io::write_all(STDOUT_FILENO, &view[0..n]);
+        write(&view[0..n]);
     }
 }
 
@@ -107,7 +118,10 @@ fn why(program: &[u8], a: Asked) {
     } else if a.what == options::FEW {
         say(program, b"too few arguments");
     } else {
-        say(program, b"an argument is empty or has more than 4,095 bytes");
+        say(
+            program,
+            b"an argument is empty or has more than 4,095 bytes",
+        );
     }
 }
 
@@ -118,12 +132,12 @@ pub fn answered(a: Asked, program: &[u8], usage: &[u8], more: &[u8]) -> bool {
         return false;
     }
     if a.what == options::HELP {
-        io::write_all(STDOUT_FILENO, usage);
-        io::write_all(STDOUT_FILENO, more);
+        write(usage);
+        write(more);
         return true;
     }
     if a.what == options::VERSION {
-        io::write_all(STDOUT_FILENO, b"holdamek 0.2.0\n");
+        write(b"holdamek 0.2.0\n");
         return true;
     }
     why(program, a);
@@ -131,27 +145,35 @@ pub fn answered(a: Asked, program: &[u8], usage: &[u8], more: &[u8]) -> bool {
     true
 }
 
-// The bytes of a file at the front of `file`. A file of tables that fits with a byte to spare is whole; where there are fewer bytes, one read more tells an error from the end.
+// Nothing was read, for the reason that is said.
+fn failed(name: &[u8]) -> Loaded
+    ensures { λ r. ⌜ r .length ≡ 0 ⌝ }
+{
+    os::fail(name);
+    Loaded {
+        length: 0,
+        good: false,
+    }
+}
+
+// The bytes of a file at the front of `file`, which has room for more than the tables. A read behind them tells an error from the end.
 fn read(name: &[u8], file: &mut [u8]) -> Loaded
     requires { ⌜ 3760 < length (now file) ⌝ }
     ensures { λ r. ⌜ r .length ≤ length (now (file .exit)) ⌝ }
 {
     let fd = os::open_read(name);
     if fd < 0 {
-        os::fail(name);
-        return Loaded {
-            length: 0,
-            good: false,
-        };
+        return failed(name);
     }
     let length = io::read_full(fd, file);
     let mut rest = [0u8; 1];
-    let good = 0 <= libc::read(fd, &mut rest);
-    if !good {
-        os::fail(name);
+    if libc::read(fd, &mut rest) < 0 {
+        let none = failed(name);
+        libc::close(fd);
+        return none;
     }
     libc::close(fd);
-    Loaded { length, good }
+    Loaded { length, good: true }
 }
 
 // Reads the tables, and makes the fresh state. Where they are refused the reason is on standard error, and the form is the caller's to print.
