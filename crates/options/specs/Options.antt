@@ -1,7 +1,7 @@
 -- What the words of a command line ask for. Options and operands stand in any order; the word behind `--tables` is its file, whatever it is; the first word that asks
 -- for help or the version, or that can't be taken, decides.
 use mathlib.Core.Bool.{Bool, cond, not, _&&_, _||_}
-use mathlib.Core.List.{List, [], _∷_}
+use mathlib.Core.List.{List}
 use Prim.Native.Nat.{ℕ, _+_}
 use lib.Dec.{eqb, ltb}
 use lib.ListN.{length, getD}
@@ -96,13 +96,3 @@ next a most i w =
 -- behind the last word, of a program that needs at least so many operands
 unfoldable pub ended : Asked → ℕ → Asked
 ended a least = cond (eqb (a .what) run && ltb (a .operands) least) (decided a few 0) a
-
--- ---- all words
-
-unfoldable pub words : Asked → ℕ → ℕ → List (List ℕ) → Asked
-words a most i [] = a
-words a most i (w ∷ l) = words (next a most i w) most (i + 1) l
-
--- the words behind the program's name, which is argument 0
-unfoldable pub asked : ℕ → ℕ → List (List ℕ) → Asked
-asked least most l = ended (words none most 1 l) least
