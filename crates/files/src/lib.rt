@@ -69,7 +69,7 @@ fn next(a: Asked, most: usize, i: usize) -> Asked {
     options::next(a, most, i, &word[0..n])
 }
 
-// What the command line asks for, of a program that takes `least` to `most` operands. A word that is too long for a buffer is as empty to `options`.
+// What the command line asks for, of a program that takes `least` to `most` operands. A word that is too long for the buffer reads as empty, which `options` refuses.
 pub fn asked(least: usize, most: usize) -> Asked {
     let n = os::arg_count();
     let mut a = options::none();
@@ -132,8 +132,9 @@ pub fn answered(a: Asked, program: &[u8], usage: &[u8], more: &[u8]) -> bool {
         return false;
     }
     if a.what == options::HELP {
-        write(usage);
-        write(more);
+        if write(usage) {
+            write(more);
+        }
         return true;
     }
     if a.what == options::VERSION {

@@ -28,7 +28,7 @@ pub const MANY: u32 = 6;
 // Fewer than it needs.
 pub const FEW: u32 = 7;
 
-// A word that is empty or no path for its length.
+// A word that is empty, or longer than a path can be.
 pub const UNFIT: u32 = 8;
 
 // What was asked so far: one of the numbers above, and the number of the argument that decided it; the number of the table file's argument; how many operands there
@@ -84,7 +84,7 @@ fn settled(a: Asked) -> bool
     (a.what != RUN) & (a.what != FILE)
 }
 
-// Whether a word is no operand and no option for its length: a path has at most 4,095 bytes.
+// Whether a word is empty, or longer than a path can be: 4,095 bytes.
 fn no_path(word: &[u8]) -> bool
     ensures { λ r. ⌜ r ≡ no-path (now (word .entry)) ⌝ }
 {

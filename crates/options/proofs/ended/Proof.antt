@@ -1,11 +1,8 @@
 -- `options::ended` meets its contract: the test is that of the definition.
-use mathlib.Core.Path.{sym, _∙_}
 use borrow.Author.Needs.{needs}
 use Rattle.options.specs.Options.{ended}
 use Rattle.options.proofs.ended.Statement.{statement}
 use Rattle.options.proofs.ended.Tie as tie
-use Rattle.options.proofs.ended.Reads as reads
-use Rattle.options.proofs.ended.Lts as lts
 
 returns : tie.Need-returns
 unfolding ended

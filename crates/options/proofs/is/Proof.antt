@@ -6,11 +6,9 @@ use native.Mathlib.Nat.{zero-add}
 use lib.ListN.{length, take}
 use lib.Seq.{take-all}
 use borrow.Author.Needs.{needs}
-use Rattle.laws.specs.Bytes.{same, unlike, match-more, match-not, match-end}
+use Rattle.laws.specs.Bytes.{unlike, match-more, match-not, match-end}
 use Rattle.options.proofs.is.Statement.{statement}
 use Rattle.options.proofs.is.Tie as tie
-use Rattle.options.proofs.is.Reads as reads
-use Rattle.options.proofs.is.Lts as lts
 
 abbrev Inv-loop : tie.InvT-loop
 Inv-loop word text i₀ i = (i ≤ length text) × (take i word ≡ take i text)
@@ -19,7 +17,7 @@ abbrev μ-loop : tie.MeasureT-loop
 μ-loop word text i₀ i = length text - i
 
 returns : tie.Need-returns Inv-loop μ-loop
-returns c = sym (unlike (c .before .args .word .now) (c .before .args .text .now) (λ e. c .if1 .taken (omega arith)))
+returns c = sym (unlike (c .before .args .word .now) (c .before .args .text .now) (λ e. omega arith))
 
 returns-2 : tie.Need-returns-2 Inv-loop μ-loop
 returns-2 c =

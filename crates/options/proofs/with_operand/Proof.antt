@@ -3,8 +3,6 @@ use borrow.Author.Needs.{needs}
 use Rattle.options.specs.Options.{with-operand}
 use Rattle.options.proofs.with_operand.Statement.{statement}
 use Rattle.options.proofs.with_operand.Tie as tie
-use Rattle.options.proofs.with_operand.Reads as reads
-use Rattle.options.proofs.with_operand.Lts as lts
 
 returns : tie.Need-returns
 unfolding with-operand
