@@ -3,6 +3,8 @@
 ghost use mathlib.Core.Path.{_≡_};
 ghost use Prim.Native.Nat.{_≤_, _<_};
 ghost use lib.ListN.{length};
+ghost use Rattle.crc32.specs.Crc32.{crc32};
+ghost use Rattle.call.specs.Chunk.{Begun, begin};
 
 mod path;
 
@@ -177,18 +179,27 @@ fn read(name: &[u8], file: &mut [u8]) -> Loaded
     Loaded { length, good: true }
 }
 
+// The tables and the fresh state of a table file's bytes, and their CRC-32. A refusal leaves both blocks as they were.
+fn begin(bytes: &[u8], t: &mut [i16; 1880], b: &mut [i16; 234]) -> Checked
+    ensures { λ r. ⌜ Begun.begun (r .code) (now (t .exit)) (now (b .exit)) ≡ begin (now (bytes .entry)) (now (t .entry)) (now (b .entry)) ⌝ }
+    ensures { λ r. ⌜ r .sum ≡ crc32 (now (bytes .entry)) ⌝ }
+{
+    let code = call::begin(bytes, t, b);
+    let sum = crc32::crc32(bytes);
+    Checked { code, sum }
+}
+
 // Reads the tables, and makes the fresh state. Where they are refused the reason is on standard error, and the form is the caller's to print.
 pub fn tables(name: &[u8], t: &mut [i16; 1880], b: &mut [i16; 234]) -> Checked {
     let mut file = [0u8; MORE];
     let loaded = read(name, &mut file);
     let n = loaded.length;
-    let code = call::begin(&file[0..n], t, b);
-    let sum = crc32::crc32(&file[0..n]);
-    if code == 1 && loaded.good {
+    let checked = begin(&file[0..n], t, b);
+    if checked.code == 1 && loaded.good {
         say(name, b"not 3,760 bytes of tables");
     }
-    if code == 2 {
+    if checked.code == 2 {
         say(name, b"the initial delay is not in 19..144");
     }
-    Checked { code, sum }
+    checked
 }

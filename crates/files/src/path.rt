@@ -104,7 +104,7 @@ pub fn look(path: &[u8]) -> Seen {
     let known = answer.known;
     Seen {
         there: true,
-        regular: known.st_mode / 4096 % 16 == 8,
+        regular: (known.st_mode & libc::S_IFMT) == libc::S_IFREG,
         device: known.st_dev,
         inode: known.st_ino,
         length: size(known.st_size),
