@@ -47,7 +47,7 @@ frame-form = ascii "(pcm " ++ replicate 320 h ++ ascii ")\n"
 
 -- the first bytes of an output: a frame's form, or a last one
 unfoldable pub own-output : List ℕ → Bool
-own-output front = like front frame-form || like front (ascii "(total ") || like front (ascii "(refused ")
+own-output front = like front frame-form || (like front (ascii "(total ") || like front (ascii "(refused "))
 
 -- the first bytes of a file of so many: the beginning of a job file
 unfoldable pub own-state : List ℕ → ℕ → Bool

@@ -1,6 +1,7 @@
 // What a resumed job decides before it writes and between its parts: whether OUT and STATE.new are such as these programs leave, whether the files are different ones, and when a
 // state is saved. The files are the program's.
 ghost use mathlib.Core.Path.{_≡_};
+ghost use mathlib.Core.Bool.{cond};
 ghost use mathlib.Core.List.{_∷_, []};
 ghost use lib.ListN.{take};
 ghost use Prim.Native.Nat.{_≤_, min};
@@ -121,16 +122,20 @@ pub fn tail_at(p: Saved) -> u64
     p.written - TAIL_ROOM as u64
 }
 
+fn code(own: bool) -> u32
+    ensures { λ r. ⌜ r ≡ cond own 0 27 ⌝ }
+{
+    if own { 0 } else { 27 }
+}
+
 // Whether OUT, of this length, is this job's: 0; 27 where it isn't. `front` are its first bytes, FRAME_ROOM or as many as there are; `tail` those from `tail_at` up to `p.written`.
 pub fn out_check(p: Saved, b: &[i16; 234], length: u64, front: &[u8], tail: &[u8]) -> u32
     ensures { λ r. ⌜ r ≡ out-check p (now (b .entry)) length (now (front .entry)) (now (tail .entry)) ⌝ }
 {
-    let own = if p.written == 0 {
-        own_output(front)
-    } else {
-        (p.written <= length) & own_tail(b, tail)
-    };
-    if own { 0 } else { 27 }
+    if p.written == 0 {
+        return code(own_output(front));
+    }
+    code((p.written <= length) & own_tail(b, tail))
 }
 
 // Whether both are there and are one file.
