@@ -47,7 +47,7 @@ module _ (l m : List ℕ) (i : ℕ) where
   unfolding same
   same-end h k e = sym (e ∙ rw (drop-of-length-le l {i = i} h, drop-of-length-le m {i = i} k))
 
-like-none : (l : List ℕ) → like l [] ≡ true
+pub like-none : (l : List ℕ) → like l [] ≡ true
 unfolding like
 like-none [] = refl
 like-none (a ∷ l) = refl

@@ -4,4 +4,5 @@ pub mod Damage
 pub mod Fits
 pub mod Shown
 pub mod Resume
+pub mod Own
 pub mod Call
