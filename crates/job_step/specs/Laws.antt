@@ -2,23 +2,24 @@
 use mathlib.Core.Path.{_≡_, refl, sym, ap, _∙_}
 use mathlib.Core.Bool.{Bool, true, false, cond, not, _&&_, _||_}
 use mathlib.Core.List.{List, [], _∷_, _++_, append-assoc, append-nil}
-use Prim.Native.Nat.{ℕ, zero, suc, _+_, _-_, _*_, _≤_, _<_, min}
+use Prim.Native.Nat.{ℕ, zero, suc, _+_, _-_, _≤_, _<_, min}
 use native.Mathlib.Omega.{arith}
 use native.Mathlib.Numerals.{add-one}
 use native.Mathlib.Nat.{add-zero}
 use borrow.Author.Tests.{eq-eqb, ne-eqb, leb-true, leb-false}
 use lib.Dec.{eqb, leb}
 use lib.IntN.{ℤ, pos}
-use lib.ListN.{length, take, drop, getD, replicate, length-append, length-drop, drop-of-length-le}
-use lib.Seq.{drop-cons, drop-at, drop-append-le, getD-drop, take-all, take-length}
+use lib.ListN.{length, take, drop, getD, length-append, length-drop, drop-of-length-le}
+use lib.Seq.{drop-cons, drop-at, getD-drop, take-all}
 use Rattle.block.specs.Block.{part}
+use Rattle.block.specs.Places.{frame-length, tail-length, tail-place, state-length}
 use Rattle.laws.specs.Bytes.{same}
 use Rattle.laws.specs.Lists.{at, at-tab}
-use Rattle.print.specs.Print.{word, words, pcm, over}
+use Rattle.print.specs.Print.{frame-room, words, pcm, over}
 use Rattle.print.specs.Laws.{length-words, length-pcm}
 use Rattle.text.specs.Text.{ascii}
 use Rattle.job_step.specs.declared.File.{File}
-use Rattle.job_step.specs.Step.{fits, like, last-printed, out-check, own-output, one, among, different}
+use Rattle.job_step.specs.Step.{fits, like, tail-room, last-printed, one, among, different}
 
 -- ---- the loops
 
@@ -74,28 +75,33 @@ words-same zero l m h = refl
 words-same (suc n) l m h = rw (words-same n l m (λ k i. h k (omega arith)), h n (omega arith))
 
 -- the end of a frame's form
-pub pcm-end : (l : List ℤ) → drop 285 (pcm l) ≡ words 10 (drop 70 l) ++ ascii ")\n"
+pub pcm-end : (l : List ℤ) → drop (frame-room - tail-room) (pcm l) ≡ words tail-length (drop (frame-length - tail-length) l) ++ ascii ")\n"
 unfolding pcm
 pcm-end l =
     let p : List ℕ = ascii "(pcm " ++ words 70 l in
     let n : length p ≡ 285 = length-append (ascii "(pcm ") (words 70 l) ∙ omega (arith, length-words 70 l) in
     rw (words-parts 70 10 l, append-assoc (words 70 l), ← append-assoc (ascii "(pcm ") (words 70 l)) (drop-at p _ 285 n)
 
-pub form-room : (s : List ℤ) (lent form : List ℕ) → length lent ≡ 327 → form ≡ over (pcm s) lent → 327 ≤ length form
-unfolding over
-form-room s lent form n f = rw f (simp (length-append, length-drop, length-pcm) (omega arith))
+-- a form in memory that was lent for it
+module _ (s : List ℤ) (lent form : List ℕ) (n : length lent ≡ frame-room) (f : form ≡ over (pcm s) lent) where
+  pub form-room : frame-room ≤ length form
+  unfolding over
+  form-room = rw f (simp (length-append, length-drop, length-pcm) (omega arith))
 
--- the 80 words of a block up to its end, printed
-pub tail-is : (b s : List ℤ) (lent form : List ℕ) → length lent ≡ 327 → s ≡ part b 154 80 → form ≡ over (pcm s) lent → take 42 (drop 285 form) ≡ last-printed b
-unfolding part over last-printed
-tail-is b s lent form n e f =
-    let d : drop (length (pcm s)) lent ≡ [] = drop-of-length-le lent {i = length (pcm s)} (omega (arith, length-pcm s)) in
-    let w : words 10 (drop 70 s) ≡ words 10 (drop 224 b) =
-    words-same 10 (drop 70 s) (drop 224 b) (λ k h. getD-drop 70 s k (pos 0) ∙ rw e (at-tab (λ i. at b (154 + i)) 80 (70 + k) (omega arith)) ∙ shifted k ∙ sym (getD-drop 224 b k (pos 0))) in
-    rw (f, d, append-nil, pcm-end s, w) (take-all 42 _ (omega (arith, length-append (words 10 (drop 224 b)) (ascii ")\n"), length-words 10 (drop 224 b))))
-  where
-    shifted : (k : ℕ) → at b (154 + (70 + k)) ≡ at b (224 + k)
-    shifted k = let h : 154 + (70 + k) ≡ 224 + k = omega arith in rw h
+  -- its end, where it has the last words of a block
+  pub tail-is : (b : List ℤ) → s ≡ part b (state-length - frame-length) frame-length → take tail-room (drop (frame-room - tail-room) form) ≡ last-printed b
+  unfolding part over last-printed
+  tail-is b e =
+      let d : drop (length (pcm s)) lent ≡ [] = drop-of-length-le lent {i = length (pcm s)} (omega (arith, length-pcm s)) in
+      let w : words 10 (drop 70 s) ≡ words 10 (drop tail-place b) =
+      words-same 10 (drop 70 s) (drop tail-place b)
+      (λ k h. getD-drop 70 s k (pos 0) ∙ rw e (at-tab (λ i. at b (154 + i)) 80 (70 + k) (omega arith)) ∙ shifted b k ∙ sym (getD-drop tail-place b k (pos 0))) in
+      let g : form ≡ pcm s = f ∙ rw (d, append-nil) in
+      let k : length (words 10 (drop tail-place b) ++ ascii ")\n") ≤ tail-room = rw length-append (omega (arith, length-words 10 (drop tail-place b))) in
+      ap (λ (l : List ℕ). take tail-room (drop (frame-room - tail-room) l)) g ∙ ap (take tail-room) (pcm-end s ∙ ap (λ (l : List ℕ). l ++ ascii ")\n") w) ∙ take-all tail-room _ k
+    where
+      shifted : (b : List ℤ) (k : ℕ) → at b (154 + (70 + k)) ≡ at b (224 + k)
+      shifted b k = let h : 154 + (70 + k) ≡ 224 + k = omega arith in rw h
 
 -- ---- the files of a job
 

@@ -2,7 +2,7 @@
 -- a state is saved.
 use mathlib.Core.Bool.{Bool, true, false, cond, not, _&&_, _||_}
 use mathlib.Core.List.{List, [], _∷_, _++_}
-use Prim.Native.Nat.{ℕ, _+_, _-_}
+use Prim.Native.Nat.{ℕ, _+_, _-_, _*_}
 use lib.Dec.{eqb, leb}
 use lib.IntN.{ℤ}
 use lib.ListN.{drop, replicate}
@@ -57,7 +57,7 @@ own-state front n = leb n file-length && like front (ascii "HDMK")
 
 -- how many bytes the last ten samples are in a frame's form, with its end
 abbrev pub tail-room : ℕ
-tail-room = 42
+tail-room = 4 * tail-length + 2
 
 -- the end of the last form that was printed, by the state block: its last ten samples
 unfoldable pub last-printed : List ℤ → List ℕ

@@ -3,10 +3,12 @@
 ghost use mathlib.Core.Path.{_≡_};
 ghost use mathlib.Core.Bool.{cond};
 ghost use mathlib.Core.List.{_∷_, []};
-ghost use lib.ListN.{take};
 ghost use Prim.Native.Nat.{_≤_, min};
 ghost use Rattle.laws.specs.Bytes.{same};
 ghost use Rattle.job_step.specs.Step.{due, fits, like, frame-form, own-output, own-state, last-printed, tail-at, out-check, one, different};
+use block::places::FRAME_LENGTH;
+use block::places::STATE_LENGTH;
+use block::places::TAIL_LENGTH;
 use job::Saved;
 use print::FRAME_ROOM;
 
@@ -20,8 +22,8 @@ pub struct File {
 // Lines between two saved states: ten minutes of voice.
 pub const EACH: u32 = 60000;
 
-// The bytes of the last ten samples in a frame's form, with its end.
-pub const TAIL_ROOM: usize = 42;
+// How many bytes the last ten samples are in a frame's form, with its end.
+pub const TAIL_ROOM: usize = 4 * TAIL_LENGTH + 2;
 
 // Whether EACH or more lines were taken since the state of so many lines was saved.
 pub fn due(p: Saved, saved: u32) -> bool
@@ -84,6 +86,7 @@ pub fn own_state(front: &[u8], length: u64) -> bool
     (length <= job::LENGTH as u64) & like(front, b"HDMK")
 }
 
+// Whether two texts are the same.
 fn same(a: &[u8], b: &[u8]) -> bool
     ensures { λ r. ⌜ r ≡ same (now (a .entry)) (now (b .entry)) ⌝ }
 {
@@ -104,9 +107,9 @@ fn same(a: &[u8], b: &[u8]) -> bool
 fn own_tail(b: &[i16; 234], tail: &[u8]) -> bool
     ensures { λ r. ⌜ r ≡ same (now (tail .entry)) (last-printed (now (b .entry))) ⌝ }
 {
-    // They are the last of 80 words from here on.
-    let mut samples = [0i16; 80];
-    block::words(b, 154, &mut samples);
+    // They are the last of as many words as a frame has.
+    let mut samples = [0i16; FRAME_LENGTH];
+    block::words(b, STATE_LENGTH - FRAME_LENGTH, &mut samples);
     let mut form = [0u8; FRAME_ROOM];
     print::pcm(&samples, &mut form);
     same(tail, &form[FRAME_ROOM - TAIL_ROOM..])
@@ -122,6 +125,7 @@ pub fn tail_at(p: Saved) -> u64
     p.written - TAIL_ROOM as u64
 }
 
+// The number of an OUT.
 fn code(own: bool) -> u32
     ensures { λ r. ⌜ r ≡ cond own 0 27 ⌝ }
 {

@@ -11,9 +11,10 @@ part-same-end c = form-room _ _ _ refl (c .before .pcm .ensures .1 .1)
 returns : tie.Need-returns
 returns c =
     let p = c .before .before .before in
-    rw (c .same .ensures, tail-is (c .before .before .before .before .before .before .before .before .before .before .before .args .b .now) _ _ _ refl (p .before .before .before .before .words .ensures) (p .pcm .ensures .1 .1))
+    let w = p .before .before .before .before in
+    rw (c .same .ensures, tail-is _ _ _ refl (p .pcm .ensures .1 .1) (w .before .before .before .before .args .b .now) (w .words .ensures))
 
 pub own-tail-spec : {M : Type 1} → statement M
 own-tail-spec =
     tie.close
-    (tie.spec (λ c. search needs) (λ c κs. search needs) (λ c κs. search needs) (λ c. search needs) (λ c. search needs) (λ c. search needs) part-same-end (λ c κs. search needs) returns)
+    (tie.spec (λ c. search needs) (λ c. search needs) (λ c κs. search needs) (λ c κs. search needs) (λ c. search needs) (λ c. search needs) (λ c. search needs) part-same-end (λ c κs. search needs) returns)
