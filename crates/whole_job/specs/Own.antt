@@ -1,31 +1,37 @@
--- What a job leaves is its own: an OUT that a good job wrote, or that was left by a job that was stopped, and a STATE.new that was left, pass the tests of job_step. Assumes nothing.
+-- What a job leaves is its own: an OUT that a good job wrote (`good-own`), or that was left by one that was stopped (`left-own`), and a STATE.new that was left (`aside-own`) pass the tests of
+-- job_step; an OUT that is shorter than what was written, or that has other samples there, is refused. Assumes nothing.
 use mathlib.Core.Path.{_≡_, refl, sym, ap, _∙_}
 use mathlib.Core.Bool.{Bool, true, false, cond, _&&_, _||_}
+use mathlib.Core.Logic.{_≢_}
 use mathlib.Core.List.{List, [], _∷_, _++_, append-assoc}
-use Prim.Native.Nat.{ℕ, zero, suc, _+_, _-_, _*_, _/_, _%_, _^_, _≤_, _<_, min}
+use Prim.Native.Nat.{ℕ, zero, suc, _+_, _-_, _*_, _/_, _%_, _^_, _<_}
 use native.Mathlib.Omega.{arith}
-use borrow.Author.Tests.{eq-eqb, ne-eqb, eqb-true, eqb-false, le-leb}
-use lib.Dec.{eqb}
-use lib.IntN.{ℤ}
+use borrow.Author.Tests.{eq-eqb, ne-eqb, le-leb, lt-leb}
+use lib.Dec.{eqb, leb}
+use lib.IntN.{ℤ, pos}
 use lib.Signed.{mag}
-use lib.ListN.{length, take, drop, replicate, length-append, length-take}
+use lib.ListN.{length, take, drop, replicate, length-take}
+use lib.Seq.{take-at, drop-at, getD-drop}
+use mir.Syntax.{w16}
+use mir.Val.{toZ}
 use Rattle.basic_op.specs.Ops.{low16}
 use Rattle.basic_op.specs.Low.{low-lt}
+use Rattle.block.specs.Places.{tail-length, tail-place}
 use Rattle.call.specs.Call.{last-form, printed, fresh-job, file-check, output}
 use Rattle.count.specs.declared.Counts.{Counts}
 use Rattle.job.specs.declared.Saved.{Saved}
 use Rattle.job.specs.Job.{file-length, widths, head, body, pack, fits}
 use Rattle.job_step.specs.Step.{like, frame-form, own-output, own-state, tail-at, out-check}
 use Rattle.job_step.specs.Step as Step
-use Rattle.job_step.specs.Laws.{like-none}
-use Rattle.laws.specs.Bytes.{same, same-self}
+use Rattle.job_step.specs.Laws.{like-none, words-parts}
+use Rattle.laws.specs.Bytes.{same, same-self, same-true}
 use Rattle.laws.specs.Digits.{digit, is-digit, value-digit, digit-is}
 use Rattle.laws.specs.Lists.{at}
 use Rattle.line_step.specs.declared.Progress.{Progress}
 use Rattle.line_step.specs.Step.{Job, Step, one-more, stop, done, line-step}
 use Rattle.line_step.specs.Laws.{by-step}
 use Rattle.print.specs.Print.{frame-room, word, words, pcm, figure, figures, total, refused}
-use Rattle.print.specs.Laws.{length-words}
+use Rattle.print.specs.Laws.{length-words, number, sample-back}
 use Rattle.text.specs.Text.{ascii}
 use Rattle.words.specs.Words.{number-bytes, numbers-bytes}
 use Rattle.words.specs.Words.{words as words-of}
@@ -47,6 +53,53 @@ good-own file text all b p out good h =
     let e : drop (p .written - 42) (take (p .written) out) ≡ Step.last-printed b =
     ap (λ (m : ℕ). drop (m - 42) (take (p .written) out)) (sym n) ∙ good .shown (omega arith) in
     rw (ne-eqb (p .written) 0 h, le-leb (p .written) (length out) (good .reach), e, same-self (Step.last-printed b))
+
+-- one that is shorter than what was written does not
+pub short-out : (b : List ℤ) (p : Saved) (out : List ℕ) → length out < p .written → out-refused p b out ≡ 27
+unfolding out-refused out-check
+short-out b p out h = rw (ne-eqb (p .written) 0 (λ e. omega arith), lt-leb (p .written) (length out) h)
+
+-- the digits of a sample
+word-at : (m n : ℕ) (l : List ℤ) → take 4 (drop (4 * m) (words (m + (1 + n)) l)) ≡ word (low16 (at l m))
+unfolding words word
+word-at m n l =
+    let d : List ℤ = drop m l in
+    let z : m + 0 ≡ m = omega arith in
+    ap (λ (x : List ℕ). take 4 (drop (4 * m) x)) (words-parts m (1 + n) l)
+    ∙ ap (take 4) (drop-at (words m l) (words (1 + n) d) (4 * m) (length-words m l) ∙ words-parts 1 n d)
+    ∙ take-at (words 1 d) (words n (drop 1 d)) 4 refl
+    ∙ ap (λ (x : ℤ). word (low16 x)) (getD-drop m l 0 (pos 0) ∙ rw z)
+
+-- unlike samples of 16 bits have unlike digits
+words-unlike : (n k : ℕ) (l m : List ℤ) → k < n → mag (at l k) < 32768 → mag (at m k) < 32768 → words n l ≡ words n m → at l k ≡ at m k
+words-unlike n k l m h f g e =
+    let i : k + (1 + (n - k - 1)) ≡ n = omega arith in
+    sym (back l f) ∙ ap (λ (x : List ℕ). toZ w16 (number (take 4 (drop (4 * k) x)))) (rw i e) ∙ back m g
+  where
+    back : (l : List ℤ) → mag (at l k) < 32768 → toZ w16 (number (take 4 (drop (4 * k) (words (k + (1 + (n - k - 1))) l)))) ≡ at l k
+    back l f = ap (λ (x : List ℕ). toZ w16 (number x)) (word-at k (n - k - 1) l) ∙ sample-back (at l k) (record { sfits = f })
+
+last-unlike : (b b′ : List ℤ) (k : ℕ) → k < tail-length → mag (at b (tail-place + k)) < 32768 → mag (at b′ (tail-place + k)) < 32768
+    → Step.last-printed b ≡ Step.last-printed b′ → at b (tail-place + k) ≡ at b′ (tail-place + k)
+unfolding Step.last-printed
+last-unlike b b′ k h f g e =
+    let x : List ℕ = words tail-length (drop tail-place b) in
+    let y : List ℕ = words tail-length (drop tail-place b′) in
+    let d : x ≡ y = sym (take-at x (ascii ")\n") 40 (length-words 10 (drop tail-place b))) ∙ ap (take 40) e ∙ take-at y (ascii ")\n") 40 (length-words 10 (drop tail-place b′)) in
+    let u : at (drop tail-place b) k ≡ at b (tail-place + k) = getD-drop tail-place b k (pos 0) in
+    let v : at (drop tail-place b′) k ≡ at b′ (tail-place + k) = getD-drop tail-place b′ k (pos 0) in
+    sym u ∙ words-unlike tail-length k (drop tail-place b) (drop tail-place b′) h (rw u f) (rw v g) d ∙ v
+
+-- nor does one whose last samples, of 16 bits, are others
+pub other-out : (b b′ : List ℤ) (p : Saved) (out : List ℕ) (k : ℕ) → k < tail-length → mag (at b (tail-place + k)) < 32768 → mag (at b′ (tail-place + k)) < 32768
+    → at b (tail-place + k) ≢ at b′ (tail-place + k) → (p .written ≡ 0 → ⊥) → drop (tail-at p) (take (p .written) out) ≡ Step.last-printed b′ → out-refused p b out ≡ 27
+unfolding out-refused out-check
+other-out b b′ p out k h f g d z e = rw (ne-eqb (p .written) 0 z, e) (by (leb (p .written) (length out)) (same (Step.last-printed b′) (Step.last-printed b)) refl)
+  where
+    by : (x y : Bool) → same (Step.last-printed b′) (Step.last-printed b) ≡ y → _≡_ {A = ℕ} (cond (x && y) 0 27) 27
+    by true true i = absurd (d (last-unlike b b′ k h f g (sym (same-true _ _ i))))
+    by true false i = refl
+    by false y i = refl
 
 -- ---- the first bytes of an output
 
@@ -186,10 +239,11 @@ unfolding pack body widths head numbers-bytes number-bytes like Step.fits
 tagged b p = refl
 
 -- what was left of a job file that was being written
-pub aside-own : (b : List ℤ) (p : Saved) → length (pack b p) ≡ file-length → (n : ℕ) → let f : List ℕ = take n (pack b p) in own-state (take 4 f) (length f) ≡ true
+pub aside-own : (b : List ℤ) (p : Saved) → length b ≡ 234 → ((k : ℕ) → mag (at b k) < 32768) → fits p ≡ true → p .tables < 2 ^ 32 → p .call < 2 ^ 32
+    → (n : ℕ) → let f : List ℕ = take n (pack b p) in own-state (take 4 f) (length f) ≡ true
 unfolding own-state
-aside-own b p h n =
+aside-own b p h w e t c n =
     rw (
-      le-leb (length (take n (pack b p))) file-length (rw length-take (omega arith)),
+      le-leb (length (take n (pack b p))) file-length (rw length-take (omega (arith, pack-length b p h w e t c))),
       like-take 4 (take n (pack b p)) (ascii "HDMK") (like-take n (pack b p) (ascii "HDMK") (tagged b p)),
     )
