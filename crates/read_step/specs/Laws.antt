@@ -1,0 +1,39 @@
+-- What the proofs of `read_step` use: a turn of crate call on the front of the input, and its rest moved to the front. Assumes nothing.
+use mathlib.Core.Path.{_≡_, refl, ap, sym, _∙_}
+use mathlib.Core.List.{List, [], _∷_}
+use Prim.Native.Nat.{ℕ, zero, suc, _+_, _-_, min}
+use native.Mathlib.Omega.{arith}
+use native.Mathlib.Nat.{sub-zero}
+use lib.IntN.{ℤ}
+use lib.ListN.{length, take, drop, length-take}
+use lib.Seq.{slice}
+use Rattle.print.specs.Print.{over}
+use Rattle.line_step.specs.Step.{Job}
+use Rattle.call.specs.Chunk.{Part, part, given, tested, turn}
+use Rattle.call.specs.Chunk as Chunk
+use Rattle.call.specs.Laws.{turn-are}
+use Rattle.read_step.specs.Reading.{full, answer, read-step}
+
+-- no more bytes than there are
+take-min : (n : ℕ) (l : List ℕ) → take (min n (length l)) l ≡ take n l
+take-min n l = rw (← length-take n l) (front n l)
+  where
+    front : (n : ℕ) (l : List ℕ) → take (length (take n l)) l ≡ take n l
+    front zero l = refl
+    front (suc n) [] = refl
+    front (suc n) (x ∷ l) = rw (front n l)
+
+-- the lines of the first n bytes, and the rest behind them moved to the front
+pub step-is : (t : List ℤ) (job : Job) (n : ℕ) (input out : List ℕ) {to used written k : ℕ} {next : Job} {input′ out′ : List ℕ} → to ≡ min n (length input)
+    → Chunk.answer next used written out′ ≡ turn t job (full + 1) (take (to - 0) input) out → k ≡ length (slice used to input) → input′ ≡ over (slice used to input) input
+    → answer next k written input′ out′ ≡ read-step t job n input out
+unfolding read-step turn given tested
+step-is t job n input out {to} {used} {written} {k} {next} {input′} {out′} ht e hk hi =
+    let w : take (to - 0) input ≡ take n input = rw (sub-zero to, ht, take-min n input) in
+    let g : Chunk.answer next used written out′ ≡ turn t job (full + 1) (take n input) out = rw w at e in
+    let P : Part = part t job (full + 1) (length out) [] (take n input) in
+    let f = turn-are t job (full + 1) (take n input) out g in
+    let u : slice used to input ≡ P .unused = rw (ht, take-min n input) (f .1 .0) in
+    let hw : written ≡ length (P .text) = cc in
+    let ho : out′ ≡ over (P .text) out = cc in
+    rw (hk, hi, u, hw, ho, f .0)
