@@ -1,23 +1,30 @@
 // The decoding program (01, "The call text and the program"): tables from the file `tables.g729`, a call from standard input, samples and the last form to standard
-// output. What is printed is `output` of call.specs.Call; no contract can say what is read or written, so the work is done by crate call on slices.
-ghost use Prim.Native.Nat.{_≤_, _<_};
-ghost use lib.ListN.{length};
+// output. What is printed is `output` of call.specs.Call; no contract can say what is read or written, so the work is done by crate read_step on lent memory, and whole_call.specs.Reads has what its reads print together.
+ghost use mathlib.Core.Path.{_≡_};
+ghost use Prim.Native.Nat.{_+_, _≤_, _<_};
+ghost use lib.ListN.{length, take};
 ghost use Rattle.print.specs.Print.{form-room};
+ghost use Rattle.read_step.specs.Reading.{input-room};
 use libc::STDIN_FILENO;
 use libc::STDOUT_FILENO;
-use line_step::Progress;
 use print::FORM_ROOM;
+use read_step::INPUT;
+use read_step::OUTPUT;
+use read_step::Reading;
 
-// As many lines or turns as there can be.
+// As many reads as there can be.
 const MOST: u32 = 4294967295;
 
-// Where the program is: how far the call is, the bytes of the input buffer that are not used yet, and whether it goes on.
+// What a read gave: how many bytes, 0 at the end; and whether it was good.
+struct Got {
+    bytes: usize,
+    good: bool,
+}
+
+// Where the program is: where the call stands, whether it goes on, and whether it could be read and standard output written.
 struct Place {
-    job: Progress,
-    from: usize,
-    to: usize,
+    call: Reading,
     more: bool,
-    // False where standard input could not be read, or standard output not written.
     good: bool,
 }
 
@@ -30,6 +37,59 @@ fn write(text: &[u8]) -> bool {
     done
 }
 
+// Whether a read was good; where it failed, a message on standard error.
+fn good_read(answer: isize, name: &[u8]) -> bool {
+    if answer < 0 {
+        os::fail(name);
+        return false;
+    }
+    true
+}
+
+// Reads behind the bytes held, which stay as they are.
+fn read(fd: i32, name: &[u8], held: usize, input: &mut [u8]) -> Got
+    requires { ⌜ held ≤ length (now input) ⌝ }
+    ensures { λ r. ⌜ (take held (now (input .exit)) ≡ take held (now (input .entry))) × (held + r .bytes ≤ length (now (input .entry))) ⌝ }
+{
+    let answer = libc::read(fd, &mut input[held..]);
+    let good = good_read(answer, name);
+    let bytes = io::count(answer, &input[held..]);
+    Got { bytes, good }
+}
+
+// One read of the call, and what its lines print. None follows the end, a refusal, or a failure.
+fn turn(
+    t: &[i16],
+    b: &mut [i16],
+    from: Reading,
+    fd: i32,
+    name: &[u8],
+    input: &mut [u8; INPUT],
+    out: &mut [u8; OUTPUT],
+) -> Place
+    requires { ⌜ from .held ≤ input-room ⌝ }
+    ensures { λ r. ⌜ r .call .held ≤ input-room ⌝ }
+{
+    let got = read(fd, name, from.held, input);
+    let call = read_step::read_step(t, b, from, got.bytes, input, out);
+    let text: &[u8] = out;
+    let written = call.written;
+    let good = write(&text[0..written]) && got.good;
+    Place {
+        call,
+        more: good && 0 < got.bytes && call.job.code == 0,
+        good,
+    }
+}
+
+// How many reads may follow.
+fn rest(most: u32, more: bool) -> u32
+    requires { ⌜ 0 < most ⌝ }
+    ensures { λ r. ⌜ r < most ⌝ }
+{
+    if more { most - 1 } else { 0 }
+}
+
 // Writes the front of a last form.
 fn write_form(form: &[u8; FORM_ROOM], n: usize) -> bool
     requires { ⌜ n ≤ form-room ⌝ }
@@ -38,99 +98,38 @@ fn write_form(form: &[u8; FORM_ROOM], n: usize) -> bool
     write(&text[0..n])
 }
 
-// Whether a read was good; where it failed, a message on standard error.
-fn good_read(answer: isize) -> bool {
-    if answer < 0 {
-        os::fail(b"standard input");
-        return false;
-    }
-    true
-}
-
-// Reads on behind the bytes that are kept. Nothing goes on behind a read that failed.
-fn read(job: Progress, from: usize, to: usize, input: &mut [u8]) -> Place
-    ensures { λ r. ⌜ (r .from ≤ r .to) × (r .to ≤ length (now (input .entry))) ⌝ }
+// The last form of a call.
+fn end(call: Reading, input: &[u8; INPUT])
+    requires { ⌜ call .held ≤ input-room ⌝ }
 {
-    let kept = call::keep(input, from, to);
-    let answer = libc::read(STDIN_FILENO, &mut input[kept..]);
-    let good = good_read(answer);
-    let got = io::count(answer, &input[kept..]);
-    Place {
-        job,
-        from: 0,
-        to: kept + got,
-        more: 0 < got,
-        good,
-    }
+    let mut form = [0u8; FORM_ROOM];
+    let text: &[u8] = input;
+    let held = call.held;
+    let job = call.job;
+    let n = call::finish(job, &text[0..held], &mut form);
+    write_form(&form, n);
 }
 
-// The whole lines that are there, as many as the output buffer has room for; where there is none, reads on.
-fn turn(t: &[i16], b: &mut [i16], p: Place, input: &mut [u8], out: &mut [u8]) -> Place
-    requires { ⌜ (p .from ≤ p .to) × (p .to ≤ length (now input)) ⌝ }
-    ensures { λ r. ⌜ (r .from ≤ r .to) × (r .to ≤ length (now (input .entry))) ⌝ }
-{
-    let from = p.from;
-    let to = p.to;
-    let job = p.job;
-    let taken = call::turn(t, b, job, MOST, &input[from..to], out);
-    let next = taken.job;
-    let at = from + taken.used;
-    let written = taken.written;
-    let good = write(&out[0..written]);
-    let more = good && next.code == 0;
-    if more && written == 0 {
-        return read(next, at, to, input);
-    }
-    Place {
-        job: next,
-        from: at,
-        to,
-        more,
-        good,
-    }
-}
-
-// How many turns may follow.
-fn rest(most: u32, more: bool) -> u32
-    requires { ⌜ 0 < most ⌝ }
-    ensures { λ r. ⌜ r < most ⌝ }
-{
-    if more { most - 1 } else { 0 }
-}
-
-// The last form, unless standard input or output failed.
-fn end(p: Place, input: &[u8])
-    requires { ⌜ (p .from ≤ p .to) × (p .to ≤ length (now input)) ⌝ }
-{
-    if p.good {
-        let from = p.from;
-        let to = p.to;
-        let job = p.job;
-        let mut form = [0u8; FORM_ROOM];
-        let n = call::finish(job, &input[from..to], &mut form);
-        write_form(&form, n);
-    }
-}
-
-// All lines of a call. Each turn takes a line, of which Count limits the number, or reads at least one byte, of which a line has a few, so there are fewer turns than MOST.
-fn decode(t: &[i16], b: &mut [i16]) {
-    let mut input_buffer = io::large_buffer();
-    let mut out_buffer = io::large_buffer();
-    let input: &mut [u8] = &mut input_buffer;
-    let out: &mut [u8] = &mut out_buffer;
+// A whole call. Each read but the last gives at least one byte, of which Count and the longest line limit the number, so there are fewer than MOST. The last form is written unless something failed.
+fn decode(t: &[i16], b: &mut [i16], fd: i32, name: &[u8]) {
+    let mut input = [0u8; INPUT];
+    let mut out = [0u8; OUTPUT];
+    let call = read_step::start();
     let mut p = Place {
-        job: call::start(),
-        from: 0,
-        to: 0,
+        call,
         more: true,
         good: true,
     };
     let mut most: u32 = MOST;
     while 0 < most {
-        p = turn(t, b, p, input, out);
+        let from = p.call;
+        p = turn(t, b, from, fd, name, &mut input, &mut out);
         most = rest(most, p.more);
     }
-    end(p, input);
+    if p.good {
+        let last = p.call;
+        end(last, &input);
+    }
 }
 
 // The bytes of the table file, as many as there is room for; none where it can't be opened.
@@ -156,7 +155,7 @@ fn main() {
     let n = read_tables(&mut file);
     let code = call::begin(&file[0..n], &mut t, &mut b);
     if code == 0 {
-        decode(&t, &mut b);
+        decode(&t, &mut b, STDIN_FILENO, b"standard input");
         return;
     }
     let mut form = [0u8; FORM_ROOM];
