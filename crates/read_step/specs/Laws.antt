@@ -14,14 +14,14 @@ use Rattle.call.specs.Chunk as Chunk
 use Rattle.call.specs.Laws.{turn-are}
 use Rattle.read_step.specs.Reading.{full, answer, read-step}
 
--- no more bytes than there are
-take-min : (n : ℕ) (l : List ℕ) → take (min n (length l)) l ≡ take n l
-take-min n l = rw (← length-take n l) (front n l)
+-- the first n bytes, as many as there are
+pub front : (n : ℕ) (l : List ℕ) {to : ℕ} → to ≡ min n (length l) → take (to - 0) l ≡ take n l
+front n l {to} e = rw (sub-zero to, e, ← length-take n l) (again n l)
   where
-    front : (n : ℕ) (l : List ℕ) → take (length (take n l)) l ≡ take n l
-    front zero l = refl
-    front (suc n) [] = refl
-    front (suc n) (x ∷ l) = rw (front n l)
+    again : (n : ℕ) (l : List ℕ) → take (length (take n l)) l ≡ take n l
+    again zero l = refl
+    again (suc n) [] = refl
+    again (suc n) (x ∷ l) = rw (again n l)
 
 -- the lines of the first n bytes, and the rest behind them moved to the front
 pub step-is : (t : List ℤ) (job : Job) (n : ℕ) (input out : List ℕ) {to used written k : ℕ} {next : Job} {input′ out′ : List ℕ} → to ≡ min n (length input)
@@ -29,11 +29,11 @@ pub step-is : (t : List ℤ) (job : Job) (n : ℕ) (input out : List ℕ) {to us
     → answer next k written input′ out′ ≡ read-step t job n input out
 unfolding read-step turn given tested
 step-is t job n input out {to} {used} {written} {k} {next} {input′} {out′} ht e hk hi =
-    let w : take (to - 0) input ≡ take n input = rw (sub-zero to, ht, take-min n input) in
+    let w : take (to - 0) input ≡ take n input = front n input ht in
     let g : Chunk.answer next used written out′ ≡ turn t job (full + 1) (take n input) out = rw w at e in
     let P : Part = part t job (full + 1) (length out) [] (take n input) in
     let f = turn-are t job (full + 1) (take n input) out g in
-    let u : slice used to input ≡ P .unused = rw (ht, take-min n input) (f .1 .0) in
+    let u : slice used to input ≡ P .unused = rw (← sub-zero to, w) (f .1 .0) in
     let hw : written ≡ length (P .text) = cc in
     let ho : out′ ≡ over (P .text) out = cc in
     rw (hk, hi, u, hw, ho, f .0)

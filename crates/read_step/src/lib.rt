@@ -1,12 +1,14 @@
 // One read of a call (01, "The call text and the program"): the whole lines of the bytes held and read are decoded, and what is left is held for the next read.
 ghost use mathlib.Core.Path.{_≡_};
 ghost use Prim.Native.Nat.{_+_, _≤_, min};
-ghost use lib.ListN.{length};
+ghost use lib.ListN.{length, take};
 ghost use Rattle.line_step.specs.Step.{kept};
-ghost use Rattle.call.specs.Call.{start};
+ghost use Rattle.print.specs.Print.{over, form-room};
+ghost use Rattle.call.specs.Call.{start, last-form};
 ghost use Rattle.read_step.specs.Reading.{input-room, output-room, Answer, read-step};
 use line::SHORTEST;
 use line_step::Progress;
+use print::FORM_ROOM;
 use print::FRAME_ROOM;
 
 // As many of the shortest lines as an input has room for.
@@ -81,4 +83,20 @@ pub fn read_step(
 {
     let job = from.job;
     step(t, b, job, from.held, got, input, out)
+}
+
+// `finish` on a slice.
+fn last(job: Progress, held: usize, input: &[u8], out: &mut [u8; FORM_ROOM]) -> usize
+    ensures { λ r. ⌜ (r ≤ form-room) × ((r ≡ length (last-form job (take held (now (input .entry))))) × (now (out .exit) ≡ over (last-form job (take held (now (input .entry)))) (now (out .entry)))) ⌝ }
+{
+    let to = words::lesser(held, input.len());
+    call::finish(job, &input[0..to], out)
+}
+
+// The last form, where the text ends behind these reads, or a line was refused. Answers its length; the bytes behind it are as they were.
+pub fn finish(at: Reading, input: &[u8; INPUT], out: &mut [u8; FORM_ROOM]) -> usize
+    ensures { λ r. ⌜ (r ≤ form-room) × ((r ≡ length (last-form (at .job) (take (at .held) (now (input .entry))))) × (now (out .exit) ≡ over (last-form (at .job) (take (at .held) (now (input .entry)))) (now (out .entry)))) ⌝ }
+{
+    let job = at.job;
+    last(job, at.held, input, out)
 }
