@@ -1,16 +1,17 @@
-// The decoding program (01, "The call text and the program"): tables from the file `tables.g729`, a call from standard input, samples and the last form to standard
-// output. What is printed is `output` of call.specs.Call; no contract can say what is read or written, so the work is done by crate read_step on lent memory, and whole_call.specs.Reads has what its reads print together.
+// The decoding program `decode [--tables FILE] [CALL]` (01, "The call text and the program"): tables from a file, a call from standard input or a file, samples and the
+// last form to standard output. What is printed is `output` of call.specs.Call. No contract can say what is read or written, so the work is done on lent memory, by
+// crate read_step; whole_call.specs.Reads has what its reads print together.
 ghost use mathlib.Core.Path.{_≡_};
 ghost use Prim.Native.Nat.{_+_, _≤_, _<_};
 ghost use lib.ListN.{length, take};
-ghost use Rattle.print.specs.Print.{form-room};
 ghost use Rattle.read_step.specs.Reading.{input-room};
 use libc::STDIN_FILENO;
-use libc::STDOUT_FILENO;
 use print::FORM_ROOM;
 use read_step::INPUT;
 use read_step::OUTPUT;
 use read_step::Reading;
+
+const USAGE: [u8; 37] = *b"usage: decode [--tables FILE] [CALL]\n";
 
 // As many reads as there can be.
 const MOST: u32 = 4294967295;
@@ -26,15 +27,6 @@ struct Place {
     call: Reading,
     more: bool,
     good: bool,
-}
-
-// Writes to standard output; false, with a message on standard error, where that fails.
-fn write(text: &[u8]) -> bool {
-    let done = io::write_all(STDOUT_FILENO, text);
-    if !done {
-        os::fail(b"standard output");
-    }
-    done
 }
 
 // Whether a read was good; where it failed, a message on standard error.
@@ -57,10 +49,10 @@ fn read(fd: i32, name: &[u8], held: usize, input: &mut [u8]) -> Got
     Got { bytes, good }
 }
 
-// One read of the call, and what its lines print. None follows the end, a refusal, or a failure.
+// One read of the call, and what its lines print. None follows the end, a refusal or a failure.
 fn turn(
-    t: &[i16],
-    b: &mut [i16],
+    t: &[i16; 1880],
+    b: &mut [i16; 234],
     from: Reading,
     fd: i32,
     name: &[u8],
@@ -74,7 +66,7 @@ fn turn(
     let call = read_step::read_step(t, b, from, got.bytes, input, out);
     let text: &[u8] = out;
     let written = call.written;
-    let good = write(&text[0..written]) && got.good;
+    let good = files::write(&text[0..written]) && got.good;
     Place {
         call,
         more: good && 0 < got.bytes && call.job.code == 0,
@@ -90,28 +82,16 @@ fn rest(most: u32, more: bool) -> u32
     if more { most - 1 } else { 0 }
 }
 
-// Writes the front of a last form.
-fn write_form(form: &[u8; FORM_ROOM], n: usize) -> bool
-    requires { ⌜ n ≤ form-room ⌝ }
-{
-    let text: &[u8] = form;
-    write(&text[0..n])
-}
-
 // The last form of a call.
-fn end(call: Reading, input: &[u8; INPUT])
-    requires { ⌜ call .held ≤ input-room ⌝ }
-{
+fn end(call: Reading, input: &[u8; INPUT]) {
     let mut form = [0u8; FORM_ROOM];
-    let text: &[u8] = input;
-    let held = call.held;
-    let job = call.job;
-    let n = call::finish(job, &text[0..held], &mut form);
-    write_form(&form, n);
+    let n = read_step::finish(call, input, &mut form);
+    files::print(&form, n);
 }
 
-// A whole call. Each read but the last gives at least one byte, of which Count and the longest line limit the number, so there are fewer than MOST. The last form is written unless something failed.
-fn decode(t: &[i16], b: &mut [i16], fd: i32, name: &[u8]) {
+// A whole call. Each read but the last gives at least one byte, of which Count and the longest line limit the number, so there are fewer than MOST. There is no last form
+// where the call could not be read, or standard output not written.
+fn decode(t: &[i16; 1880], b: &mut [i16; 234], fd: i32, name: &[u8]) {
     let mut input = [0u8; INPUT];
     let mut out = [0u8; OUTPUT];
     let call = read_step::start();
@@ -132,33 +112,56 @@ fn decode(t: &[i16], b: &mut [i16], fd: i32, name: &[u8]) {
     }
 }
 
-// The bytes of the table file, as many as there is room for; none where it can't be opened.
-fn read_tables(file: &mut [u8]) -> usize
-    ensures { λ r. ⌜ r ≤ length (now (file .entry)) ⌝ }
-{
-    let name = b"tables.g729";
-    let fd = os::open_read(name);
-    if fd < 0 {
-        os::fail(name);
-        return 0;
+// The call: the file of this name, or standard input, which may be a terminal. Below 0, with a message, where the file can't be opened.
+fn open(given: bool, name: &[u8]) -> i32 {
+    if given {
+        let fd = os::open_read(name);
+        if fd < 0 {
+            os::fail(name);
+        }
+        return fd;
     }
-    let n = io::read_full(fd, file);
-    libc::close(fd);
-    n
+    if libc::isatty(STDIN_FILENO) == 1 {
+        files::say(
+            b"decode",
+            b"reading a call from the terminal; end it with Ctrl-D (decode --help tells more)",
+        );
+    }
+    STDIN_FILENO
+}
+
+// The tables are checked before the call is opened.
+fn run(tables: &[u8], given: bool, name: &[u8]) {
+    let mut t = [0i16; 1880];
+    let mut b = [0i16; 234];
+    let checked = files::tables(tables, &mut t, &mut b);
+    if checked.code != 0 {
+        let mut form = [0u8; FORM_ROOM];
+        let n = print::refused(checked.code, 0, &mut form);
+        files::print(&form, n);
+        return;
+    }
+    let fd = open(given, name);
+    if 0 <= fd {
+        decode(&t, &mut b, fd, name);
+    }
 }
 
 fn main() {
-    // One byte more than the tables have, so that a longer file is noticed.
-    let mut file = [0u8; 3761];
-    let mut t = [0i16; 1880];
-    let mut b = [0i16; 234];
-    let n = read_tables(&mut file);
-    let code = call::begin(&file[0..n], &mut t, &mut b);
-    if code == 0 {
-        decode(&t, &mut b, STDIN_FILENO, b"standard input");
+    let a = files::asked(0, 1);
+    let usage = USAGE;
+    let done = files::answered(
+        a,
+        b"decode",
+        &usage,
+        b"Decodes a call, a frame a line, to samples on standard output: a line for each frame, then its total, or the code and the line of its refusal.\n\n  decode <monday.call >monday.samples\n  decode --tables site/tables.g729 monday.call >monday.samples\n\n  CALL            a file or a named pipe; else the call is read from standard input\n  --tables FILE   the tables, 3,760 bytes; else tables.g729 of this folder\n  --help          this text\n  --version       the version\n",
+    );
+    if done {
         return;
     }
-    let mut form = [0u8; FORM_ROOM];
-    let length = print::refused(code, 0, &mut form);
-    write_form(&form, length);
+    let mut tables = io::buffer();
+    let mut name = io::buffer();
+    let n = files::argument(a.tables, b"tables.g729", &mut tables);
+    let m = files::argument(a.first, b"standard input", &mut name);
+    run(&tables[0..n], a.first != 0, &name[0..m]);
 }
