@@ -1,5 +1,5 @@
-# What came of some calls: awk -f report.awk -- PART SUM DIGEST CALL .. (in the C locale). PART/new/NAME.samples is what the program printed for the file CALL. It
-# prints a row of the summary for each call, and for those with a whole output writes PART/rows/NAME, by which decode-some tells what is done. SUM ends with
+# What came of some calls: awk -f report.awk -- PART SUM DIGEST CALL .. (in the C locale). PART/NAME.samples is what the program printed for the file CALL. It
+# prints a row of the summary for each call, and for those with a whole output writes PART/NAME.row, by which decode-some tells what is done. SUM ends with
 # `,levels` if peak levels are asked for.
 #
 # An output is whole if it ends with the total of the call's lines, or with the refusal of the line behind those that it has samples for.
@@ -20,14 +20,14 @@ function row(digest, call,   name, result, form) {
 		print digest, escaped(name), "-", "-", "-", "-", "-", "-", "-", "-", "-", "-", "-", "-", "-"
 		return
 	}
-	read_samples(ARGV[1] "/new/" name ".samples")
+	read_samples(ARGV[1] "/" name ".samples")
 	read_call(call)
 	result = outcome()
 	form = result OFS escaped(name) OFS frames OFS voice OFS sid OFS quiet OFS lost OFS share() OFS longest OFS parity OFS level() OFS code OFS refused OFS digest
 	print form
 	if (result == "incomplete") return
-	print digest " " ARGV[2] " " (327 * frames + length(end) - 2) " " (result == "refused" ? result : "samples") "\n" form >(ARGV[1] "/rows/" name)
-	close(ARGV[1] "/rows/" name)
+	print digest " " ARGV[2] " " (327 * frames + length(end) - 2) " " (result == "refused" ? result : "samples") "\n" form >(ARGV[1] "/" name ".row")
+	close(ARGV[1] "/" name ".row")
 }
 
 function escaped(text,   i, c, to) {
