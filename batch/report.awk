@@ -38,19 +38,22 @@ function escaped(text,   i, c, to) {
 	return to
 }
 
-# Sets `frames`, `peak` and `end`, what stands behind the samples. Records end with `)`, so that a missing last line feed is seen.
-function read_samples(file,   line) {
+# Sets `frames`, `peak` and `end`, what stands behind the samples, with the line feed before it. Records end with `)`, so that a missing last line feed is seen.
+function read_samples(file,   line, there) {
 	frames = 0
-	end = ""
 	peak = -1
-	may = exceeds = ""
+	may = exceeds = end = ""
 	RS = ")"
-	while (length(end) < 99 && (getline line <file) > 0) {
-		if (frames == 0 && end == "") line = "\n" line
-		if (end == "" && length(line) == 326 && substr(line, 1, 6) == "\n(pcm ") {
-			frames++
-			if (levels && line ~ may && line ~ exceeds) find_peak(line)
-		} else end = end line ")"
+	there = (getline line <file) > 0
+	line = "\n" line
+	while (there && length(line) == 326 && substr(line, 1, 6) == "\n(pcm ") {
+		frames++
+		if (levels && line ~ may && line ~ exceeds) find_peak(line)
+		there = (getline line <file) > 0
+	}
+	while (there && length(end) < 99) {
+		end = end line ")"
+		there = (getline line <file) > 0
 	}
 	close(file)
 	RS = "\n"
