@@ -98,7 +98,7 @@ function either(one, other) {
 	return one == "" || other == "" ? one other : one "|" other
 }
 
-# Counts the frames that have samples, by kind; `more` is whether the call has further lines.
+# Counts the frames that have samples, by kind; `more` is whether the call has further lines, `fewer` whether it has not even these.
 function read_call(file,   n, line, kind, run) {
 	voice = sid = quiet = lost = longest = parity = 0
 	for (n = 0; n < frames && (getline line <file) > 0; n++) {
@@ -112,6 +112,7 @@ function read_call(file,   n, line, kind, run) {
 		run = kind == "l" ? run + 1 : 0
 		if (run > longest) longest = run
 	}
+	fewer = n < frames
 	more = (getline line <file) > 0
 	close(file)
 }
@@ -119,6 +120,7 @@ function read_call(file,   n, line, kind, run) {
 # Sets `code` and `refused`, the line.
 function outcome(   word) {
 	code = refused = "-"
+	if (fewer) return "incomplete"
 	if (end == "\n(total (frames " frames ") (lost " sid + quiet + lost "))\n)" && !more) return frames == 0 ? "empty" : voice == 0 ? "no voice" : "decoded"
 	if (end !~ /^\n[(]refused [(]code [0-9]+[)] [(]line [0-9]+[)][)]\n[)]$/) return "incomplete"
 	split(end, word, /[ )]+/)
