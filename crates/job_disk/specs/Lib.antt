@@ -1,0 +1,2 @@
+-- The definitions of crate job_disk.
+pub mod Disk
