@@ -1,14 +1,17 @@
 -- The account of a job's files, and what holds of it between two parts.
-use mathlib.Core.Bool.{Bool, false}
+use mathlib.Core.Bool.{Bool}
 use mathlib.Core.Path.{_≡_}
-use Prim.Native.Nat.{ℕ, _+_, _-_, _%_, _^_}
+use Prim.Native.Nat.{ℕ, _+_, _%_, _^_, _<_}
 use lib.Dec.{leb}
 use Rattle.job.specs.declared.Saved.{Saved}
 use Rattle.job_disk.specs.declared.disk.Disk.{Disk}
 use Rattle.job_disk.specs.declared.Todo.{Todo}
 
+abbrev pub each : ℕ
+each = 60000
+
 unfoldable pub due : Saved → ℕ → Bool
-due p saved = leb 60000 (p .lines - saved)
+due p saved = leb (saved + each) (p .lines)
 
 -- n bytes more of OUT are written
 pub record Put (d : Disk) (n : ℕ) (r : Disk) : Type 0 where
@@ -30,4 +33,4 @@ pub record Kept (p : Saved) (d : Disk) : Type 0 where
 -- between two parts OUT has what the place counts, and no state is due
 pub record Between (r : Todo) : Type 0 where
   pub written : r .disk .written ≡ r .place .written
-  pub kept : due (r .place) (r .disk .saved) ≡ false
+  pub kept : r .place .lines < r .disk .saved + each

@@ -1,13 +1,318 @@
+// What a job writes, in its order: forms in OUT at their place, OUT synced, the state written aside, synced and renamed. Wherever the program is stopped, the last saved state is there,
+// and OUT has at least what it counts; what stands behind is written again, the same bytes.
 mod disk;
+
 ghost use mathlib.Core.Path.{_≡_};
+ghost use mathlib.Core.Bool.{true};
+ghost use Prim.Native.Nat.{_≤_};
+ghost use Rattle.print.specs.Print.{form-room};
+ghost use Rattle.job.specs.Part.{position};
+ghost use Rattle.job_disk.specs.Disk.{due, Kept, Between};
 use disk::Disk;
 use job::Saved;
+use job::parts;
+use job::parts::ROOM;
+use line_step::Progress;
+use print::FORM_ROOM;
 
+// The open call and the open OUT.
+struct Fds {
+    call: i32,
+    out: i32,
+}
+
+// Between two parts: the place in the call, the files, how many frames may follow, and whether to go on.
 struct Todo {
     place: Saved,
     disk: Disk,
     left: u32,
     more: bool,
+}
+
+// A part: 0 or the number of the refusal that ended it, the place behind it, the files, how many frames may follow, and whether it has one.
+struct Done {
+    code: u32,
+    place: Saved,
+    disk: Disk,
+    left: u32,
+    some: bool,
+}
+
+fn due(p: Saved, saved: u32) -> bool
+    ensures { λ r. ⌜ r ≡ due p saved ⌝ }
+{
+    saved as u64 + 60000 <= p.lines as u64
+}
+
+// The first n bytes of a form, on standard output.
+fn print(form: &[u8; FORM_ROOM], n: usize) {
+    let view = &form[..];
+    if n <= view.len() {
+        io::write_all(libc::STDOUT_FILENO, &view[0..n]);
+    }
+}
+
+// Writes a call's last form, the first n bytes, to OUT behind its first `at`, and to standard output. What stood behind it in OUT is cut off.
+fn put_form(form: &[u8; FORM_ROOM], n: usize, at: u64, d: Disk, out: i32, name: &[u8])
+    requires { ⌜ (at ≡ d .written) × (n ≤ form-room) ⌝ }
+{
+    let text: &[u8] = form;
+    let last = disk::put(d, out, &text[0..n], at, name);
+    if last.good {
+        if disk::cut(last, out, last.written, name) {
+            print(form, n);
+        }
+    }
+}
+
+// The last form of a call, behind the first `at` bytes of OUT.
+fn put_last(job: Progress, held: &[u8], at: u64, d: Disk, out: i32, name: &[u8])
+    requires { ⌜ at ≡ d .written ⌝ }
+{
+    let mut form = [0u8; FORM_ROOM];
+    let n = call::finish(job, held, &mut form);
+    put_form(&form, n, at, d, out, name);
+}
+
+// The last form of a call that ends at this place, when its state is saved.
+fn finish(job: Progress, held: &[u8], p: Saved, d: Disk, out: i32, name: &[u8])
+    requires { ⌜ (d .good ≡ true) × Kept p d ⌝ }
+{
+    put_last(job, held, p.written, d, out, name);
+}
+
+// A line of a part is refused. No state is saved, so that the refusal is found again.
+fn refuse(p: Saved, code: u32, d: Disk, out: i32, name: &[u8])
+    requires { ⌜ d .written ≡ p .written ⌝ }
+{
+    put_last(parts::progress_of(p, code), b"", p.written, d, out, name);
+}
+
+// Says where the job stopped, when its state is saved.
+fn print_saved(p: Saved, d: Disk)
+    requires { ⌜ (d .good ≡ true) × Kept p d ⌝ }
+{
+    let counts = p.counts;
+    let mut form = [0u8; FORM_ROOM];
+    let n = print::saved(counts, &mut form);
+    print(&form, n);
+}
+
+// As many frames are done as were asked for: OUT ends with the last of them.
+fn stop(p: Saved, d: Disk, out: i32, name: &[u8])
+    requires { ⌜ (d .good ≡ true) × Kept p d ⌝ }
+{
+    if disk::cut(d, out, p.written, name) {
+        print_saved(p, d);
+    }
+}
+
+// The job doesn't go on.
+fn ended(r: Todo) -> Todo
+    requires { ⌜ Between r ⌝ }
+    ensures { λ q. ⌜ Between q ⌝ }
+{
+    let place = r.place;
+    let disk = r.disk;
+    Todo {
+        place,
+        disk,
+        left: r.left,
+        more: false,
+    }
+}
+
+// Behind a state that was saved.
+fn kept(p: Saved, d: Disk, left: u32) -> Todo
+    requires { ⌜ Kept p d ⌝ }
+    ensures { λ q. ⌜ Between q ⌝ }
+{
+    Todo {
+        place: p,
+        disk: d,
+        left,
+        more: d.good & (0 < left),
+    }
+}
+
+// Behind a part of frames: the state is saved where as many frames are done as were asked for, or where it is due.
+fn behind(
+    b: &[i16; 234],
+    p: Saved,
+    d: Disk,
+    left: u32,
+    out: i32,
+    state: &[u8],
+    name: &[u8],
+) -> Todo
+    requires { ⌜ d .written ≡ p .written ⌝ }
+    ensures { λ q. ⌜ Between q ⌝ }
+{
+    if left == 0 {
+        let k = disk::keep(d, b, p, out, state, name);
+        if k.good {
+            stop(p, k, out, name);
+        }
+        return kept(p, k, 0);
+    }
+    if due(p, d.saved) {
+        let k = disk::keep(d, b, p, out, state, name);
+        return kept(p, k, left);
+    }
+    Todo {
+        place: p,
+        disk: d,
+        left,
+        more: true,
+    }
+}
+
+// The call ends at the place, or the line there is refused: the state is saved, then the last form is written.
+fn last(b: &[i16; 234], r: Todo, job: Progress, held: &[u8], out: i32, state: &[u8], name: &[u8])
+    requires { ⌜ Between r ⌝ }
+{
+    let place = r.place;
+    let disk = r.disk;
+    let k = disk::keep(disk, b, place, out, state, name);
+    if k.good {
+        finish(job, held, place, k, out, name);
+    }
+}
+
+// How many bytes of the call stand behind these, 1 at most; below 0 where it can't be read.
+fn more_of(p: Saved, held: &[u8], call: i32) -> isize {
+    let mut next = [0u8; 1];
+    let behind = std::num::wrapping_add_u64(p.at, held.len() as u64);
+    libc::pread(call, &mut next, parts::position(behind))
+}
+
+// No whole line stands at the place: the call ends there, or a line is too long. It goes on where the text does behind these bytes.
+fn end(b: &[i16; 234], r: Todo, held: &[u8], f: Fds, state: &[u8], name: &[u8]) -> Todo
+    requires { ⌜ Between r ⌝ }
+    ensures { λ q. ⌜ Between q ⌝ }
+{
+    let place = r.place;
+    let job = call::overlong(parts::progress_of(place, 0), held);
+    if job.code != 0 {
+        last(b, r, job, held, f.out, state, name);
+        return ended(r);
+    }
+    let got = more_of(place, held, f.call);
+    if got < 0 {
+        os::fail(b"CALL");
+        return ended(r);
+    }
+    if got > 0 {
+        return r;
+    }
+    last(b, r, job, held, f.out, state, name);
+    ended(r)
+}
+
+// Decodes a part of the text and writes its forms.
+fn decode(
+    t: &[i16; 1880],
+    b: &mut [i16; 234],
+    r: Todo,
+    out: i32,
+    name: &[u8],
+    input: &[u8],
+    forms: &mut [u8],
+) -> Done
+    requires { ⌜ Between r ⌝ }
+    ensures { λ q. ⌜ q .disk .written ≡ q .place .written ⌝ }
+{
+    let place = r.place;
+    let disk = r.disk;
+    let part = parts::part(t, b, place, r.left, input, forms);
+    let written = part.written;
+    let next = part.place;
+    let d = disk::put(disk, out, &forms[0..written], place.written, name);
+    Done {
+        code: part.code,
+        place: next,
+        disk: d,
+        left: part.left,
+        some: 0 < written,
+    }
+}
+
+// The text from the place on is a part, and what follows from it.
+fn step(
+    t: &[i16; 1880],
+    b: &mut [i16; 234],
+    r: Todo,
+    f: Fds,
+    state: &[u8],
+    name: &[u8],
+    input: &[u8],
+    forms: &mut [u8],
+) -> Todo
+    requires { ⌜ Between r ⌝ }
+    ensures { λ q. ⌜ Between q ⌝ }
+{
+    let done = decode(t, b, r, f.out, name, input, forms);
+    let place = done.place;
+    let d = done.disk;
+    if !d.good {
+        return ended(r);
+    }
+    if done.code != 0 {
+        refuse(place, done.code, d, f.out, name);
+        return ended(r);
+    }
+    if done.some {
+        return behind(b, place, d, done.left, f.out, state, name);
+    }
+    end(b, r, input, f, state, name)
+}
+
+// The text of the call from a place on.
+fn read_at(call: i32, input: &mut [u8], to: i64, p: Saved) -> isize
+    requires { ⌜ to ≡ position (p .at) ⌝ }
+{
+    libc::pread(call, input, to)
+}
+
+// One part: the text from the place on is read, and goes to `step`.
+fn read_on(
+    t: &[i16; 1880],
+    b: &mut [i16; 234],
+    r: Todo,
+    f: Fds,
+    state: &[u8],
+    name: &[u8],
+    input: &mut [u8],
+    forms: &mut [u8],
+) -> Todo
+    requires { ⌜ Between r ⌝ }
+    ensures { λ q. ⌜ Between q ⌝ }
+{
+    let place = r.place;
+    let got = read_at(f.call, input, parts::position(place.at), place);
+    if got < 0 {
+        os::fail(b"CALL");
+        return ended(r);
+    }
+    let n = io::count(got, input);
+    step(t, b, r, f, state, name, &input[0..n], forms)
+}
+
+// The same on whole buffers.
+fn turn(
+    t: &[i16; 1880],
+    b: &mut [i16; 234],
+    r: Todo,
+    f: Fds,
+    state: &[u8],
+    name: &[u8],
+    input: &mut [u8; 65536],
+    forms: &mut [u8; ROOM],
+) -> Todo
+    requires { ⌜ Between r ⌝ }
+    ensures { λ q. ⌜ Between q ⌝ }
+{
+    read_on(t, b, r, f, state, name, input, forms)
 }
 
 pub fn save(state: &[u8], b: &[i16; 234], p: Saved) -> bool {
