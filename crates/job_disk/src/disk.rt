@@ -20,7 +20,7 @@ pub(crate) struct Disk {
 
 // The files of a job whose state was saved at this place.
 pub(crate) fn at(p: Saved) -> Disk
-    ensures { λ r. ⌜ Kept p r ⌝ }
+    ensures { λ r. ⌜ (r .good ≡ true) × Kept p r ⌝ }
 {
     Disk {
         written: p.written,
@@ -123,6 +123,19 @@ pub(crate) fn cut(d: Disk, out: i32, at: u64, name: &[u8]) -> bool
         return false;
     }
     flush(out, name)
+}
+
+pub(crate) fn sync_folder(name: &[u8]) {
+    let n = job::names::folder(name);
+    if n == 0 {
+        let here = os::open_read(b".");
+        libc::fsync(here);
+        libc::close(here);
+        return;
+    }
+    let fd = os::open_read(&name[0..n]);
+    libc::fsync(fd);
+    libc::close(fd);
 }
 
 // Writes a file and waits until it is on the disk.

@@ -4,7 +4,7 @@ mod disk;
 
 ghost use mathlib.Core.Path.{_≡_};
 ghost use mathlib.Core.Bool.{true};
-ghost use Prim.Native.Nat.{_≤_};
+ghost use Prim.Native.Nat.{_≤_, _<_};
 ghost use Rattle.print.specs.Print.{form-room};
 ghost use Rattle.job.specs.Part.{position};
 ghost use Rattle.job_disk.specs.Disk.{due, Kept, Between};
@@ -315,6 +315,53 @@ fn turn(
     read_on(t, b, r, f, state, name, input, forms)
 }
 
+// How many turns may follow.
+fn rest(most: u32, more: bool) -> u32
+    requires { ⌜ 0 < most ⌝ }
+    ensures { λ r. ⌜ r < most ⌝ }
+{
+    if more { most - 1 } else { 0 }
+}
+
+// All parts. There are fewer than 2^32: each has a frame, but for those that find the text longer than it was just before.
+fn all_parts(t: &[i16; 1880], b: &mut [i16; 234], from: Todo, f: Fds, state: &[u8], name: &[u8])
+    requires { ⌜ Between from ⌝ }
+{
+    let mut input = io::large_buffer();
+    let mut forms = [0u8; ROOM];
+    let mut r = from;
+    let mut turns = 4294967295u32;
+    while 0 < turns {
+        r = turn(t, b, r, f, state, name, &mut input, &mut forms);
+        turns = rest(turns, r.more);
+    }
+}
+
+// The new state takes the place of the old one. False, with a message, where it could not be written; the old one is then as it was.
 pub fn save(state: &[u8], b: &[i16; 234], p: Saved) -> bool {
     disk::save(state, b, p)
+}
+
+// Waits until the names in a file's folder are on the disk. Not every file system can do that, so there is no message.
+pub fn sync_folder(name: &[u8]) {
+    disk::sync_folder(name);
+}
+
+// Goes on with a job whose state is saved, for at most so many frames, from the open call to the open OUT, which has what the state counts.
+pub fn run(
+    t: &[i16; 1880],
+    b: &mut [i16; 234],
+    p: Saved,
+    most: u32,
+    call: i32,
+    out: i32,
+    state: &[u8],
+    name: &[u8],
+) {
+    let d = disk::at(p);
+    if most == 0 {
+        print_saved(p, d);
+        return;
+    }
+    all_parts(t, b, kept(p, d, most), Fds { call, out }, state, name);
 }
