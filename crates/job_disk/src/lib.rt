@@ -5,6 +5,7 @@ mod disk;
 ghost use mathlib.Core.Path.{_≡_};
 ghost use mathlib.Core.Bool.{true};
 ghost use Prim.Native.Nat.{_≤_, _<_};
+ghost use lib.ListN.{length};
 ghost use Rattle.print.specs.Print.{form-room};
 ghost use Rattle.job.specs.Part.{position};
 ghost use Rattle.job_disk.specs.Disk.{due, Kept, Between};
@@ -27,6 +28,12 @@ struct Todo {
     disk: Disk,
     left: u32,
     more: bool,
+}
+
+// What was read of the call: how many bytes, and whether it could be read.
+struct Text {
+    n: usize,
+    good: bool,
 }
 
 // A part: 0 or the number of the refusal that ended it, the place behind it, the files, how many frames may follow, and whether it has one.
@@ -237,21 +244,19 @@ fn decode(
     }
 }
 
-// The text from the place on is a part, and what follows from it.
-fn step(
-    t: &[i16; 1880],
-    b: &mut [i16; 234],
+// Behind a part: no more where a file could not be written or a line is refused.
+fn settle(
+    b: &[i16; 234],
     r: Todo,
+    done: Done,
+    held: &[u8],
     f: Fds,
     state: &[u8],
     name: &[u8],
-    input: &[u8],
-    forms: &mut [u8],
 ) -> Todo
-    requires { ⌜ Between r ⌝ }
+    requires { ⌜ Between r × (done .disk .written ≡ done .place .written) ⌝ }
     ensures { λ q. ⌜ Between q ⌝ }
 {
-    let done = decode(t, b, r, f.out, name, input, forms);
     let place = done.place;
     let d = done.disk;
     if !d.good {
@@ -264,18 +269,31 @@ fn step(
     if done.some {
         return behind(b, place, d, done.left, f.out, state, name);
     }
-    end(b, r, input, f, state, name)
+    end(b, r, held, f, state, name)
 }
 
-// The text of the call from a place on.
+// The call's text from a place on.
 fn read_at(call: i32, input: &mut [u8], to: i64, p: Saved) -> isize
     requires { ⌜ to ≡ position (p .at) ⌝ }
 {
     libc::pread(call, input, to)
 }
 
-// One part: the text from the place on is read, and goes to `step`.
-fn read_on(
+// The same: how many bytes; not good, with a message, where it can't be read.
+fn read_on(call: i32, p: Saved, input: &mut [u8]) -> Text
+    ensures { λ r. ⌜ r .n ≤ length (now (input .exit)) ⌝ }
+{
+    let got = read_at(call, input, parts::position(p.at), p);
+    let n = io::count(got, input);
+    if got < 0 {
+        os::fail(b"CALL");
+        return Text { n, good: false };
+    }
+    Text { n, good: true }
+}
+
+// One part: the text from the place on is read and decoded.
+fn step(
     t: &[i16; 1880],
     b: &mut [i16; 234],
     r: Todo,
@@ -288,31 +306,14 @@ fn read_on(
     requires { ⌜ Between r ⌝ }
     ensures { λ q. ⌜ Between q ⌝ }
 {
-    let place = r.place;
-    let got = read_at(f.call, input, parts::position(place.at), place);
-    if got < 0 {
-        os::fail(b"CALL");
+    let text = read_on(f.call, r.place, input);
+    if !text.good {
         return ended(r);
     }
-    let n = io::count(got, input);
-    step(t, b, r, f, state, name, &input[0..n], forms)
-}
-
-// The same on whole buffers.
-fn turn(
-    t: &[i16; 1880],
-    b: &mut [i16; 234],
-    r: Todo,
-    f: Fds,
-    state: &[u8],
-    name: &[u8],
-    input: &mut [u8; 65536],
-    forms: &mut [u8; ROOM],
-) -> Todo
-    requires { ⌜ Between r ⌝ }
-    ensures { λ q. ⌜ Between q ⌝ }
-{
-    read_on(t, b, r, f, state, name, input, forms)
+    let n = text.n;
+    let held = &input[0..n];
+    let done = decode(t, b, r, f.out, name, held, forms);
+    settle(b, r, done, held, f, state, name)
 }
 
 // How many turns may follow.
@@ -327,12 +328,14 @@ fn rest(most: u32, more: bool) -> u32
 fn all_parts(t: &[i16; 1880], b: &mut [i16; 234], from: Todo, f: Fds, state: &[u8], name: &[u8])
     requires { ⌜ Between from ⌝ }
 {
-    let mut input = io::large_buffer();
-    let mut forms = [0u8; ROOM];
+    let mut input_buffer = io::large_buffer();
+    let mut forms_buffer = [0u8; ROOM];
+    let input: &mut [u8] = &mut input_buffer;
+    let forms: &mut [u8] = &mut forms_buffer;
     let mut r = from;
     let mut turns = 4294967295u32;
     while 0 < turns {
-        r = turn(t, b, r, f, state, name, &mut input, &mut forms);
+        r = step(t, b, r, f, state, name, input, forms);
         turns = rest(turns, r.more);
     }
 }
