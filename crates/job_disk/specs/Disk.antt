@@ -1,17 +1,10 @@
 -- The account of a job's files, and what holds of it between two parts.
-use mathlib.Core.Bool.{Bool}
 use mathlib.Core.Path.{_≡_}
 use Prim.Native.Nat.{ℕ, _+_, _%_, _^_, _<_}
-use lib.Dec.{leb}
 use Rattle.job.specs.declared.Saved.{Saved}
+use Rattle.job_step.specs.Step.{each}
 use Rattle.job_disk.specs.declared.disk.Disk.{Disk}
 use Rattle.job_disk.specs.declared.Todo.{Todo}
-
-abbrev pub each : ℕ
-each = 60000
-
-unfoldable pub due : Saved → ℕ → Bool
-due p saved = leb (saved + each) (p .lines)
 
 -- n bytes more of OUT are written
 pub record Put (d : Disk) (n : ℕ) (r : Disk) : Type 0 where

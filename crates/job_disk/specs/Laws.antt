@@ -12,7 +12,7 @@ use Rattle.call.specs.Chunk as Chunk
 use Rattle.job.specs.declared.Saved.{Saved}
 use Rattle.job.specs.Part.{going, after, taken, part}
 use Rattle.job.specs.Part as Part
-use Rattle.job_disk.specs.Disk.{each, due}
+use Rattle.job_step.specs.Step.{each, due}
 
 -- where no state is due
 pub not-due : (p : Saved) (saved : ℕ) (r : Bool) → r ≡ due p saved → r ≡ false → p .lines < saved + each

@@ -42,14 +42,6 @@ fn failed(p: Saved) -> Disk
     }
 }
 
-// A line on standard error.
-pub(crate) fn say(name: &[u8], what: &[u8]) {
-    io::write_all(libc::STDERR_FILENO, name);
-    io::write_all(libc::STDERR_FILENO, b": ");
-    io::write_all(libc::STDERR_FILENO, what);
-    io::write_all(libc::STDERR_FILENO, b"\n");
-}
-
 // Writes forms at a place of OUT: behind all that is written.
 fn write_at(out: i32, forms: &[u8], to: i64, at: u64) -> isize
     requires { ⌜ to ≡ position at ⌝ }
@@ -65,7 +57,7 @@ fn write_all(out: i32, forms: &[u8], at: u64, name: &[u8]) -> bool {
         return false;
     }
     if io::count(answer, forms) < forms.len() {
-        say(name, b"not all could be written; is the disk full?");
+        files::say(name, b"not all could be written; is the disk full?");
         return false;
     }
     true
@@ -162,7 +154,7 @@ fn replace(state: &[u8], file: &[u8; LENGTH], b: &[i16; 234], p: Saved) -> bool
     let mut buffer = io::buffer();
     let n = job::names::aside(state, &mut buffer);
     if n == 0 {
-        say(state, b"the name is too long");
+        files::say(state, b"the name is too long");
         return false;
     }
     if !whole(&buffer[0..n], file) {

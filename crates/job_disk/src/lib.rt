@@ -8,7 +8,7 @@ ghost use Prim.Native.Nat.{_≤_, _<_};
 ghost use lib.ListN.{length};
 ghost use Rattle.print.specs.Print.{form-room};
 ghost use Rattle.job.specs.Part.{position};
-ghost use Rattle.job_disk.specs.Disk.{due, Kept, Between};
+ghost use Rattle.job_disk.specs.Disk.{Kept, Between};
 use disk::Disk;
 use job::Saved;
 use job::parts;
@@ -45,20 +45,6 @@ struct Done {
     some: bool,
 }
 
-fn due(p: Saved, saved: u32) -> bool
-    ensures { λ r. ⌜ r ≡ due p saved ⌝ }
-{
-    saved as u64 + 60000 <= p.lines as u64
-}
-
-// The first n bytes of a form, on standard output.
-fn print(form: &[u8; FORM_ROOM], n: usize) {
-    let view = &form[..];
-    if n <= view.len() {
-        io::write_all(libc::STDOUT_FILENO, &view[0..n]);
-    }
-}
-
 // Writes a call's last form, the first n bytes, to OUT behind its first `at`, and to standard output. What stood behind it in OUT is cut off.
 fn put_form(form: &[u8; FORM_ROOM], n: usize, at: u64, d: Disk, out: i32, name: &[u8])
     requires { ⌜ (at ≡ d .written) × (n ≤ form-room) ⌝ }
@@ -67,7 +53,7 @@ fn put_form(form: &[u8; FORM_ROOM], n: usize, at: u64, d: Disk, out: i32, name: 
     let last = disk::put(d, out, &text[0..n], at, name);
     if last.good {
         if disk::cut(last, out, last.written, name) {
-            print(form, n);
+            files::print(form, n);
         }
     }
 }
@@ -102,7 +88,7 @@ fn print_saved(p: Saved, d: Disk)
     let counts = p.counts;
     let mut form = [0u8; FORM_ROOM];
     let n = print::saved(counts, &mut form);
-    print(&form, n);
+    files::print(&form, n);
 }
 
 // As many frames are done as were asked for: OUT ends with the last of them.
@@ -162,7 +148,7 @@ fn behind(
         }
         return kept(p, k, 0);
     }
-    if due(p, d.saved) {
+    if job_step::due(p, d.saved) {
         let k = disk::keep(d, b, p, out, state, name);
         return kept(p, k, left);
     }
