@@ -157,10 +157,11 @@ fn replace(state: &[u8], file: &[u8; LENGTH], b: &[i16; 234], p: Saved) -> bool
         files::say(state, b"the name is too long");
         return false;
     }
-    if !whole(&buffer[0..n], file) {
+    let aside = &buffer[0..n];
+    if !whole(aside, file) {
         return false;
     }
-    if os::rename(&buffer[0..n], state) < 0 {
+    if os::rename(aside, state) < 0 {
         os::fail(state);
         return false;
     }

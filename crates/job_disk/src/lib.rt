@@ -36,6 +36,12 @@ struct Text {
     good: bool,
 }
 
+// Where no whole line is left: how far the call is, and how many bytes stand behind what was read of it, 1 at most; below 0 where it can't be read.
+struct Ending {
+    job: Progress,
+    behind: isize,
+}
+
 // A part: 0 or the number of the refusal that ended it, the place behind it, the files, how many frames may follow, and whether it has one.
 struct Done {
     code: u32,
@@ -129,15 +135,7 @@ fn kept(p: Saved, d: Disk, left: u32) -> Todo
 }
 
 // Behind a part of frames: the state is saved where as many frames are done as were asked for, or where it is due.
-fn behind(
-    b: &[i16; 234],
-    p: Saved,
-    d: Disk,
-    left: u32,
-    out: i32,
-    state: &[u8],
-    name: &[u8],
-) -> Todo
+fn behind(b: &[i16; 234], p: Saved, d: Disk, left: u32, out: i32, state: &[u8], name: &[u8]) -> Todo
     requires { ⌜ d .written ≡ p .written ⌝ }
     ensures { λ q. ⌜ Between q ⌝ }
 {
@@ -161,44 +159,60 @@ fn behind(
 }
 
 // The call ends at the place, or the line there is refused: the state is saved, then the last form is written.
-fn last(b: &[i16; 234], r: Todo, job: Progress, held: &[u8], out: i32, state: &[u8], name: &[u8])
-    requires { ⌜ Between r ⌝ }
+fn last(
+    b: &[i16; 234],
+    p: Saved,
+    d: Disk,
+    job: Progress,
+    held: &[u8],
+    out: i32,
+    state: &[u8],
+    name: &[u8],
+)
+    requires { ⌜ d .written ≡ p .written ⌝ }
 {
-    let place = r.place;
-    let disk = r.disk;
-    let k = disk::keep(disk, b, place, out, state, name);
+    let k = disk::keep(d, b, p, out, state, name);
     if k.good {
-        finish(job, held, place, k, out, name);
+        finish(job, held, p, k, out, name);
     }
 }
 
-// How many bytes of the call stand behind these, 1 at most; below 0 where it can't be read.
+// How many bytes of the call stand behind these, 1 at most; below 0, with a message, where it can't be read.
 fn more_of(p: Saved, held: &[u8], call: i32) -> isize {
     let mut next = [0u8; 1];
     let behind = std::num::wrapping_add_u64(p.at, held.len() as u64);
-    libc::pread(call, &mut next, parts::position(behind))
+    let got = libc::pread(call, &mut next, parts::position(behind));
+    if got < 0 {
+        os::fail(b"CALL");
+    }
+    got
 }
 
-// No whole line stands at the place: the call ends there, or a line is too long. It goes on where the text does behind these bytes.
+// No whole line stands at the place: a line is too long, or the call ends there unless there are bytes behind these.
+fn at_end(p: Saved, held: &[u8], call: i32) -> Ending {
+    let job = call::overlong(parts::progress_of(p, 0), held);
+    if job.code != 0 {
+        return Ending { job, behind: 0 };
+    }
+    Ending {
+        job,
+        behind: more_of(p, held, call),
+    }
+}
+
+// The job ends there, or goes on where the text does.
 fn end(b: &[i16; 234], r: Todo, held: &[u8], f: Fds, state: &[u8], name: &[u8]) -> Todo
     requires { ⌜ Between r ⌝ }
     ensures { λ q. ⌜ Between q ⌝ }
 {
     let place = r.place;
-    let job = call::overlong(parts::progress_of(place, 0), held);
-    if job.code != 0 {
-        last(b, r, job, held, f.out, state, name);
-        return ended(r);
-    }
-    let got = more_of(place, held, f.call);
-    if got < 0 {
-        os::fail(b"CALL");
-        return ended(r);
-    }
-    if got > 0 {
+    let ending = at_end(place, held, f.call);
+    if ending.behind > 0 {
         return r;
     }
-    last(b, r, job, held, f.out, state, name);
+    if ending.behind == 0 {
+        last(b, place, r.disk, ending.job, held, f.out, state, name);
+    }
     ended(r)
 }
 
@@ -215,16 +229,14 @@ fn decode(
     requires { ⌜ Between r ⌝ }
     ensures { λ q. ⌜ q .disk .written ≡ q .place .written ⌝ }
 {
-    let place = r.place;
-    let disk = r.disk;
-    let part = parts::part(t, b, place, r.left, input, forms);
+    let part = parts::part(t, b, r.place, r.left, input, forms);
     let written = part.written;
-    let next = part.place;
-    let d = disk::put(disk, out, &forms[0..written], place.written, name);
+    let disk = disk::put(r.disk, out, &forms[0..written], r.place.written, name);
+    let place = part.place;
     Done {
         code: part.code,
-        place: next,
-        disk: d,
+        place,
+        disk,
         left: part.left,
         some: 0 < written,
     }
@@ -310,22 +322,6 @@ fn rest(most: u32, more: bool) -> u32
     if more { most - 1 } else { 0 }
 }
 
-// All parts. There are fewer than 2^32: each has a frame, but for those that find the text longer than it was just before.
-fn all_parts(t: &[i16; 1880], b: &mut [i16; 234], from: Todo, f: Fds, state: &[u8], name: &[u8])
-    requires { ⌜ Between from ⌝ }
-{
-    let mut input_buffer = io::large_buffer();
-    let mut forms_buffer = [0u8; ROOM];
-    let input: &mut [u8] = &mut input_buffer;
-    let forms: &mut [u8] = &mut forms_buffer;
-    let mut r = from;
-    let mut turns = 4294967295u32;
-    while 0 < turns {
-        r = step(t, b, r, f, state, name, input, forms);
-        turns = rest(turns, r.more);
-    }
-}
-
 // The new state takes the place of the old one. False, with a message, where it could not be written; the old one is then as it was.
 pub fn save(state: &[u8], b: &[i16; 234], p: Saved) -> bool {
     disk::save(state, b, p)
@@ -336,7 +332,8 @@ pub fn sync_folder(name: &[u8]) {
     disk::sync_folder(name);
 }
 
-// Goes on with a job whose state is saved, for at most so many frames, from the open call to the open OUT, which has what the state counts.
+// Goes on with a job whose state is saved, for at most so many frames, from the open call to the open OUT, which has what the state counts. There are fewer than 2^32 parts: each has a
+// frame, but for those that find the text longer than it was just before.
 pub fn run(
     t: &[i16; 1880],
     b: &mut [i16; 234],
@@ -352,5 +349,15 @@ pub fn run(
         print_saved(p, d);
         return;
     }
-    all_parts(t, b, kept(p, d, most), Fds { call, out }, state, name);
+    let f = Fds { call, out };
+    let mut input_buffer = io::large_buffer();
+    let mut forms_buffer = [0u8; ROOM];
+    let input: &mut [u8] = &mut input_buffer;
+    let forms: &mut [u8] = &mut forms_buffer;
+    let mut r = kept(p, d, most);
+    let mut turns = 4294967295u32;
+    while 0 < turns {
+        r = step(t, b, r, f, state, name, input, forms);
+        turns = rest(turns, r.more);
+    }
 }

@@ -7,8 +7,8 @@ use Rattle.job_disk.proofs.decode.Tie as tie
 returns : tie.Need-returns
 returns c =
     let p = c .before .before .before .before .before .before in
-    let s = p .before .before .before .before .before .before .before .before .before in
-    put-behind _ _ _ _ (p .part .result .written) _ (c .put .ensures .written) (s .pre .written) (search needs) (part-written (s .args .t .now) (s .args .b .now) _ (s .args .r .place) (p .part .result .place) (s .args .r .left) _ _ _ (s .args .input .now) (s .args .forms .now) _ (p .part .ensures .0))
+    let s = p .before .before .before .before .before .before .before in
+    put-behind _ _ _ _ (p .part .result .written) _ (c .before .put .ensures .written) (s .pre .written) (search needs) (part-written (s .args .t .now) (s .args .b .now) _ (s .args .r .place) (p .part .result .place) (s .args .r .left) _ _ _ (s .args .input .now) (s .args .forms .now) _ (p .part .ensures .0))
 
 pub decode-spec : {M : Type 1} → statement M
 decode-spec =
