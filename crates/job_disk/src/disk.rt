@@ -10,7 +10,8 @@ use job::LENGTH;
 use job::Saved;
 use job::parts;
 
-// How many bytes of OUT should be written by now, how many of them should be on the disk, and how many lines the saved state should have taken; good where it is so, not where a call failed.
+// How many bytes of OUT should be written by now, how many of them should be on the disk, and how many lines the saved state should have taken; good where it is so. Where a call
+// failed it is not, and stays so: no state is saved behind a failure.
 pub(crate) struct Disk {
     pub written: u64,
     pub synced: u64,
@@ -73,7 +74,7 @@ pub(crate) fn put(d: Disk, out: i32, forms: &[u8], at: u64, name: &[u8]) -> Disk
         written: std::num::wrapping_add_u64(at, forms.len() as u64),
         synced: d.synced,
         saved: d.saved,
-        good,
+        good: d.good & good,
     }
 }
 
@@ -95,7 +96,7 @@ fn sync(d: Disk, out: i32, name: &[u8]) -> Disk
         written: d.written,
         synced: d.written,
         saved: d.saved,
-        good,
+        good: d.good & good,
     }
 }
 
