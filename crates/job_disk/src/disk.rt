@@ -118,7 +118,8 @@ pub(crate) fn cut(d: Disk, out: i32, at: u64, name: &[u8]) -> bool
     flush(out, name)
 }
 
-pub(crate) fn sync_folder(name: &[u8]) {
+// Waits until the names in a file's folder are on the disk. Not every file system can do that, so there is no message.
+pub fn sync_folder(name: &[u8]) {
     let n = job::names::folder(name);
     if n == 0 {
         let here = os::open_read(b".");
@@ -170,7 +171,7 @@ fn replace(state: &[u8], file: &[u8; LENGTH], b: &[i16; 234], p: Saved) -> bool
 }
 
 // The new state takes the place of the old one. False, with a message, where it could not be written; the old one is then as it was.
-pub(crate) fn save(state: &[u8], b: &[i16; 234], p: Saved) -> bool {
+pub fn save(state: &[u8], b: &[i16; 234], p: Saved) -> bool {
     let file = job::pack(b, p);
     replace(state, &file, b, p)
 }

@@ -10,6 +10,8 @@ ghost use Rattle.print.specs.Print.{form-room};
 ghost use Rattle.job.specs.Part.{position};
 ghost use Rattle.job_disk.specs.Disk.{Kept, Between};
 use disk::Disk;
+pub use disk::save;
+pub use disk::sync_folder;
 use job::Saved;
 use job::parts;
 use job::parts::ROOM;
@@ -320,16 +322,6 @@ fn rest(most: u32, more: bool) -> u32
     ensures { λ r. ⌜ r < most ⌝ }
 {
     if more { most - 1 } else { 0 }
-}
-
-// The new state takes the place of the old one. False, with a message, where it could not be written; the old one is then as it was.
-pub fn save(state: &[u8], b: &[i16; 234], p: Saved) -> bool {
-    disk::save(state, b, p)
-}
-
-// Waits until the names in a file's folder are on the disk. Not every file system can do that, so there is no message.
-pub fn sync_folder(name: &[u8]) {
-    disk::sync_folder(name);
 }
 
 // Goes on with a job whose state is saved, for at most so many frames, from the open call to the open OUT, which has what the state counts. There are fewer than 2^32 parts: each has a
