@@ -63,32 +63,32 @@ function read_samples(file,   line, there) {
 	RS = "\n"
 }
 
-# Looks at each sample of a line, and sets `within`, a regular expression for lines that need no such look, which takes ten times as long. These are at first lines whose samples are
-# all below the peak in their upper byte, since awk keeps these few expressions from call to call; after three looks in vain, lines without a sample above the peak.
-function find_peak(line,   i, n, least) {
-	in_vain++
+# Looks at each sample of a line, and sets `within`, a regular expression for lines that need no such look, which takes ten times as long: lines whose samples are below the peak in their
+# upper digits, since awk keeps these few expressions from call to call. Where one look in eight is in vain, lines without a sample above the peak.
+function find_peak(line,   i, n, before, least) {
+	before = peak
 	least = 256 * int(peak / 256)
 	for (i = 7; i < 327; i += 4) {
 		if (most[substr(line, i, 2)] < least) continue
-		n = byte[substr(line, i, 2)] * 256 + byte[substr(line, i + 2, 2)]
+		n = 256 * byte[substr(line, i, 2)] + byte[substr(line, i + 2, 2)]
 		if (n > 32768) n = 65536 - n
-		if (n > peak) {
-			peak = n
-			least = 256 * int(peak / 256)
-			in_vain = 0
-		}
+		if (n > peak) peak = n
 	}
-	if (in_vain > 2) within = all_within(peak - (peak == 32768), 65536 - peak)
-	else if (least > 0) {
-		if (!(least in below)) below[least] = all_within(least - 1, 65536 - least)
-		within = below[least]
-	}
+	in_vain += peak == before
+	if (in_vain > 2 + frames / 8) within = lines_of(bounded(sprintf("%04x", peak - (peak == 32768)), 1, "fff") (peak ? "|" bounded(sprintf("%04x", 65536 - peak), 0, "000") : ""))
+	else if (peak > 255) within = below(peak < 4096 ? 2 : 1)
 }
 
-# A line whose samples are all from 0 to `up_to` or from `from` to 65535. Two samples in a turn are faster than one.
-function all_within(up_to, from,   one) {
-	one = "(" bounded(sprintf("%04x", up_to), 1, "fff") (from < 65536 ? "|" bounded(sprintf("%04x", from), 0, "000") : "") ")"
-	return "^\n[(]pcm (" one one ")*$"
+# Lines whose samples are below the peak in the first digit, or in the first two, where the first is 0 or f.
+function below(digits,   n) {
+	n = int(peak / (digits == 1 ? 4096 : 256))
+	if ((digits, n) in made) return made[digits, n]
+	return made[digits, n] = lines_of(digits == 1 ? "[" substr(hex, 1, n) substr(hex, 17 - n) "]..." : "0[" substr(hex, 1, n) "]..|f[" substr(hex, 17 - n) "]..")
+}
+
+# Two samples in a turn are faster than one.
+function lines_of(sample) {
+	return "^\n[(]pcm ((" sample ")(" sample "))*$"
 }
 
 # Digits as many as those of `h` that are a number up to it, or from it on; `all` has the digits by which any rest is within.
