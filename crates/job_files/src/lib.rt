@@ -6,6 +6,7 @@ ghost use Rattle.job_files.specs.Reads.{Reads};
 
 mod again;
 mod begin;
+mod first;
 mod names;
 mod output;
 
@@ -74,11 +75,11 @@ fn go_on(
         return;
     }
     let o = n.out;
-    if !output::is_out(out, o, place, b) {
+    if !output::is_out(t, b, place, fd, call, out, o) {
         return;
     }
     if s.fresh {
-        if !job_disk::save(state, b, place) {
+        if !job_disk::begin(state, b, tables) {
             return;
         }
     }
