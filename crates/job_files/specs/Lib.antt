@@ -1,2 +1,2 @@
--- The definition that the contracts of `job_files` cite.
+-- The definition that the contracts of `job_files` cite, and its law.
 pub mod Reads

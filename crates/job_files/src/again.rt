@@ -1,4 +1,7 @@
 // The call of a job, read again up to the place where it goes on.
+ghost use mathlib.Core.Path.{_≡_};
+ghost use Prim.Native.Nat.{_-_};
+ghost use Rattle.job.specs.Part.{position};
 ghost use Rattle.job_files.specs.Reads.{Reads};
 use job::parts;
 use job::parts::Again;
@@ -11,16 +14,27 @@ fn count(a: Again, at: u64, bytes: &[u8]) -> Again
     parts::read_again(a, bytes)
 }
 
+// The place behind the bytes that were read.
+fn place(a: Again, at: u64) -> i64
+    requires { ⌜ Reads at a ⌝ }
+    ensures { λ r. ⌜ r ≡ position (at - a .left) ⌝ }
+{
+    parts::position(at - a.left)
+}
+
+// Reads at the place behind the bytes that were read.
+fn read_at(fd: i32, input: &mut [u8], to: i64, a: Again, at: u64) -> isize
+    requires { ⌜ to ≡ position (at - a .left) ⌝ }
+{
+    libc::pread(fd, input, to)
+}
+
 // One read more.
 fn read_more(fd: i32, at: u64, a: Again, input: &mut [u8]) -> Again
     requires { ⌜ Reads at a ⌝ }
     ensures { λ r. ⌜ Reads at r ⌝ }
 {
-    let got = libc::pread(
-        fd,
-        input,
-        parts::position(std::num::wrapping_sub_u64(at, a.left)),
-    );
+    let got = read_at(fd, input, place(a, at), a, at);
     let n = io::count(got, input);
     count(a, at, &input[0..n])
 }
@@ -48,10 +62,11 @@ pub(crate) fn taken(fd: i32, at: u64) -> Again
 }
 
 // Whether the call can be read behind the bytes that were read again, or ends there.
-pub(crate) fn readable(fd: i32, at: u64, a: Again, name: &[u8]) -> bool {
+pub(crate) fn readable(fd: i32, at: u64, a: Again, name: &[u8]) -> bool
+    requires { ⌜ Reads at a ⌝ }
+{
     let mut next = [0u8; 1];
-    let place = parts::position(std::num::wrapping_sub_u64(at, a.left));
-    if libc::pread(fd, &mut next, place) < 0 {
+    if read_at(fd, &mut next, place(a, at), a, at) < 0 {
         os::fail(name);
         return false;
     }

@@ -13,8 +13,8 @@ pub(crate) struct Begun {
     pub good: bool,
 }
 
-fn refuse(name: &[u8], code: u32, what: &[u8], tables: u32) -> Begun {
-    files::refuse(code, name, what);
+// A job that can't go on.
+fn none(tables: u32) -> Begun {
     Begun {
         place: job::start(tables),
         fresh: false,
@@ -23,67 +23,48 @@ fn refuse(name: &[u8], code: u32, what: &[u8], tables: u32) -> Begun {
 }
 
 // A state file that can't be used.
-fn refused(name: &[u8], code: u32, tables: u32) -> Begun {
+fn refuse(name: &[u8], code: u32) {
     if code == 3 {
-        return refuse(
-            name,
+        files::refuse(
             code,
-            b"not 516 bytes, so no state file, one that was cut short, or one of an older form (488, 492): take the right one, or delete it and begin anew",
-            tables,
+            name,
+            b"not 516 bytes, so no state file, one that was cut short, or one of an older form (488, 492): take the right one, or move it away and begin anew",
         );
-    }
-    if code == 22 {
-        return refuse(
-            name,
+    } else if code == 22 {
+        files::refuse(
             code,
-            b"damaged, its check sum or its numbers don't fit: take another copy, or delete it and begin anew",
-            tables,
+            name,
+            b"damaged, its check sum or its numbers don't fit: take another copy, or move it away and begin anew",
         );
-    }
-    if code == 25 {
-        return refuse(
-            name,
+    } else if code == 25 {
+        files::refuse(
             code,
-            b"saved by another version: go on with that one, or delete it and begin anew",
-            tables,
+            name,
+            b"saved by another version: go on with that one, or move it away and begin anew",
         );
-    }
-    if code == 23 {
-        return refuse(
-            name,
+    } else if code == 23 {
+        files::refuse(
             code,
+            name,
             b"begun with other tables: name the table file that it was begun with",
-            tables,
+        );
+    } else {
+        files::refuse(
+            code,
+            name,
+            b"its predictor or its delay is out of range: move it away and begin anew",
         );
     }
-    refuse(
-        name,
-        code,
-        b"its predictor or its delay is out of range: delete it and begin anew",
-        tables,
-    )
 }
 
-// The state file, for tables of this CRC-32, with its block; where there is none, a new job.
-pub(crate) fn begin(name: &[u8], tables: u32, b: &mut [i16; 234]) -> Begun {
-    let fd = os::open_read(name);
-    if fd < 0 {
-        let fresh = os::errno() == libc::ENOENT;
-        if !fresh {
-            os::fail(name);
-        }
-        return Begun {
-            place: job::start(tables),
-            fresh,
-            good: fresh,
-        };
-    }
-    let mut file = [0u8; MORE];
-    let n = io::read_full(fd, &mut file);
-    libc::close(fd);
-    let found = job::read(&file[0..n], tables, b);
+// The bytes of a state file, for tables of this CRC-32.
+fn read(name: &[u8], bytes: &[u8], tables: u32, b: &mut [i16; 234]) -> Begun {
+    let found = job::read(bytes, tables, b);
     match found {
-        Found::Refused(code) => refused(name, code, tables),
+        Found::Refused(code) => {
+            refuse(name, code);
+            none(tables)
+        }
         Found::Job(place) => Begun {
             place,
             fresh: false,
@@ -92,24 +73,74 @@ pub(crate) fn begin(name: &[u8], tables: u32, b: &mut [i16; 234]) -> Begun {
     }
 }
 
-// Whether a file of this length is one that this program may have left.
-fn own(name: &[u8], length: u64) -> bool {
+// No state file: a new job, if it is missing.
+fn fresh(name: &[u8], tables: u32) -> Begun {
+    if os::errno() != libc::ENOENT {
+        os::fail(name);
+        return none(tables);
+    }
+    Begun {
+        place: job::start(tables),
+        fresh: true,
+        good: true,
+    }
+}
+
+// The state file, with its block; where there is none, a new job. It is a file, so one read gets all of it; a read that fails is no short file.
+pub(crate) fn begin(name: &[u8], tables: u32, b: &mut [i16; 234]) -> Begun {
     let fd = os::open_read(name);
     if fd < 0 {
+        return fresh(name, tables);
+    }
+    let mut file = [0u8; MORE];
+    let got = libc::read(fd, &mut file);
+    if got < 0 {
+        os::fail(name);
+        libc::close(fd);
+        return none(tables);
+    }
+    libc::close(fd);
+    let n = io::count(got, &file);
+    read(name, &file[0..n], tables, b)
+}
+
+fn refuse_left(name: &[u8]) -> bool {
+    files::refuse(28, name, b"not left by this program: move it away");
+    false
+}
+
+// Whether a file of this length, open, is one that this program may have left.
+fn own(fd: i32, name: &[u8], length: u64) -> bool {
+    let mut front = [0u8; 4];
+    let got = libc::read(fd, &mut front);
+    if got < 0 {
+        os::fail(name);
         return false;
     }
-    let mut front = [0u8; 4];
-    let n = io::read_full(fd, &mut front);
-    libc::close(fd);
-    job_step::own_state(&front[0..n], length)
+    let n = io::count(got, &front);
+    if !job_step::own_state(&front[0..n], length) || (n < 4 && (n as u64) < length) {
+        return refuse_left(name);
+    }
+    true
 }
 
 // Whether STATE.new, where the next state is written aside, is missing or was left there by this program. It is opened only where it is a file, since a pipe would wait.
 pub(crate) fn left(name: &[u8], seen: Seen) -> bool {
-    let link = files::is_link(name);
-    if !link && (!seen.there || (seen.regular && own(name, seen.length))) {
+    if files::is_link(name) {
+        return refuse_left(name);
+    }
+    if !seen.there {
         return true;
     }
-    files::refuse(28, name, b"not left by this program: move it away");
-    false
+    if !seen.regular {
+        return refuse_left(name);
+    }
+    let fd = os::open_read(name);
+    if fd < 0 {
+        os::fail(name);
+        return false;
+    }
+    let good = own(fd, name, seen.length);
+    libc::close(fd);
+    good
 }

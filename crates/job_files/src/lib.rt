@@ -78,7 +78,7 @@ fn go_on(
         return;
     }
     if s.fresh {
-        if !job_disk::save(state, b, place) {
+        if !job_disk::begin(state, b, tables) {
             return;
         }
     }

@@ -70,6 +70,15 @@ fn are_files(n: Names, call: &[u8], state: &[u8], out: &[u8]) -> bool {
     true
 }
 
+// Whether a name ends in `.new`, as that under which another job's next state is written.
+fn is_aside(name: &[u8]) -> bool {
+    if name.len() < 4 {
+        return false;
+    }
+    let n = name.len() - 4;
+    check::same(&name[n..], b".new")
+}
+
 // Whether STATE and OUT are no links that a job can't follow: a new state would take the link's place, and OUT can't be made where a link leads nowhere.
 fn no_links(n: Names, state: &[u8], out: &[u8]) -> bool {
     if files::is_link(state) {
@@ -115,7 +124,7 @@ fn are_apart(n: Names, call: &[u8], state: &[u8], out: &[u8]) -> bool {
     if !job_step::apart(t, c, s, none, a) {
         return refuse(
             state,
-            b"this, or the file with `.new` behind its name, is CALL or the table file: name another STATE",
+            b"two of this, STATE.new, CALL and the table file are one file: name another STATE, or move STATE.new away",
         );
     }
     if !job_step::apart(t, c, s, o, a) {
@@ -145,10 +154,28 @@ fn one_place(a: &[u8], b: &[u8]) -> bool {
     !job_step::apart(folder(&a[0..n]), folder(&b[0..m]), none, none, none)
 }
 
+// Whether OUT is there or can be made: it has a folder. The reason is that of the look at it.
+fn has_folder(n: Names, out: &[u8]) -> bool {
+    let o = n.out;
+    let k = job::names::folder(out);
+    let f = folder(&out[0..k]);
+    if o.there | f.there {
+        return true;
+    }
+    os::fail(out);
+    false
+}
+
 // Whether a job can use the files of these names.
 pub(crate) fn usable(n: Names, call: &[u8], state: &[u8], out: &[u8], aside: &[u8]) -> bool {
     if !are_files(n, call, state, out) {
         return false;
+    }
+    if is_aside(state) {
+        return refuse(
+            state,
+            b"a name that ends in .new is that of another job's next state: name another STATE",
+        );
     }
     if !no_links(n, state, out) {
         return false;
@@ -162,5 +189,5 @@ pub(crate) fn usable(n: Names, call: &[u8], state: &[u8], out: &[u8], aside: &[u
             b"STATE or STATE.new would be written there: name another OUT",
         );
     }
-    true
+    has_folder(n, out)
 }

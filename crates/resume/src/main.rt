@@ -32,25 +32,27 @@ fn run(a: Asked, most: u32) {
     job_files::resume(&tables[0..t], &call[0..c], &state[0..s], &out[0..o], most);
 }
 
-// Takes the number of a standard descriptor that is closed, so that no file of the job gets it and has messages written over its bytes.
-fn fill() {
-    let fd = os::open_read(b"/dev/null");
+// Takes the number of a standard descriptor that is closed, so that no file of the job gets it and has messages written over its bytes. What takes it can't be read or
+// written. False where nothing can be opened.
+fn fill() -> bool {
+    let fd = os::open_read(b"/");
     if STDERR_FILENO < fd {
         libc::close(fd);
     }
+    0 <= fd
 }
 
 fn main() {
-    fill();
-    fill();
-    fill();
+    if !fill() || !fill() || !fill() {
+        return;
+    }
     let usage = USAGE;
     let a = files::asked(3, 4);
     let answered = files::answered(
         a,
         b"resume",
         &usage,
-        b"Decodes the next FRAMES frames of CALL, or all that are left, to OUT, and leaves the state of the job in STATE.\nWithout a file STATE a new job begins. The same command goes on where a run was stopped.\n\n  resume call.call call.state call.out           all of a call\n  resume call.call call.state call.out 6000      its next minute\n\n  --tables FILE   the tables, 3,760 bytes; else tables.g729 of this folder\n  --help          this text\n  --version       the version\n",
+        b"Decodes the next FRAMES frames of CALL, or all that are left, to OUT, and leaves the state of the job in STATE.\nWithout a file STATE a new job begins. The same command goes on where a run was stopped.\n\n  resume day.call day.state day.samples          all of a call\n  resume day.call day.state day.samples 6000     its next minute\n\n  --tables FILE   the tables, 3,760 bytes; else tables.g729 of this folder\n  --help          this text\n  --version       the version\n",
     );
     if answered {
         return;
