@@ -33,13 +33,17 @@ fn run(a: Asked, most: u32) {
 }
 
 // Takes the number of a standard descriptor that is closed, so that no file of the job gets it and has messages written over its bytes. What takes it can't be read or
-// written. False where nothing can be opened.
+// written. False, with a message, where nothing can be opened.
 fn fill() -> bool {
     let fd = os::open_read(b"/");
+    if fd < 0 {
+        os::fail(b"/");
+        return false;
+    }
     if STDERR_FILENO < fd {
         libc::close(fd);
     }
-    0 <= fd
+    true
 }
 
 fn main() {
