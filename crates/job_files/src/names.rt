@@ -130,7 +130,7 @@ fn are_apart(n: Names, call: &[u8], state: &[u8], out: &[u8]) -> bool {
     if !job_step::apart(t, c, s, none, a) {
         return refuse(
             state,
-            b"two of this, STATE.new, CALL and the table file are one file: name another STATE, or move STATE.new away",
+            b"this, or the file with `.new` behind its name, is CALL or the table file: name another STATE",
         );
     }
     if !job_step::apart(t, c, s, o, a) {
