@@ -1,19 +1,18 @@
 -- What the proofs of `job_step` use of its definitions. Assumes nothing.
 use mathlib.Core.Path.{_≡_, refl, sym, ap, _∙_}
-use mathlib.Core.Bool.{Bool, true, false, cond, not, _&&_, _||_}
+use mathlib.Core.Bool.{Bool, true, false, not, _&&_, _||_}
 use mathlib.Core.List.{List, [], _∷_, _++_, append-assoc, append-nil}
 use Prim.Native.Nat.{ℕ, zero, suc, _+_, _-_, _≤_, _<_, min}
 use native.Mathlib.Omega.{arith}
 use native.Mathlib.Numerals.{add-one}
 use native.Mathlib.Nat.{add-zero}
-use borrow.Author.Tests.{eq-eqb, ne-eqb, leb-true, leb-false}
-use lib.Dec.{eqb, leb}
+use borrow.Author.Tests.{leb-true, leb-false}
+use lib.Dec.{leb}
 use lib.IntN.{ℤ, pos}
 use lib.ListN.{length, take, drop, getD, length-append, length-drop, drop-of-length-le}
 use lib.Seq.{drop-cons, drop-at, getD-drop, take-all}
 use Rattle.block.specs.Block.{part}
 use Rattle.block.specs.Places.{frame-length, tail-length, tail-place, state-length}
-use Rattle.laws.specs.Bytes.{same}
 use Rattle.laws.specs.Lists.{at, at-tab}
 use Rattle.print.specs.Print.{frame-room, words, pcm, over}
 use Rattle.print.specs.Laws.{length-words, length-pcm}
@@ -33,20 +32,6 @@ module _ (l m : List ℕ) (i : ℕ) where
 
   pub like-more : i < length l → i < length m → like l m ≡ like (drop i l) (drop i m) → fits (getD l i 0) (getD m i 0) ≡ true → like l m ≡ like (drop (i + 1) l) (drop (i + 1) m)
   like-more h k e f = e ∙ like-next h k ∙ rw f
-
-  same-next : i < length l → i < length m → same (drop i l) (drop i m) ≡ cond (eqb (getD l i 0) (getD m i 0)) (same (drop (i + 1) l) (drop (i + 1) m)) false
-  unfolding same
-  same-next h k = rw (drop-cons l i 0 h, drop-cons m i 0 k, add-one)
-
-  pub same-not : i < length l → i < length m → same l m ≡ same (drop i l) (drop i m) → (getD l i 0 ≡ getD m i 0 → ⊥) → false ≡ same l m
-  same-not h k e f = sym (e ∙ same-next h k ∙ rw (ne-eqb _ _ f))
-
-  pub same-more : i < length l → i < length m → same l m ≡ same (drop i l) (drop i m) → getD l i 0 ≡ getD m i 0 → same l m ≡ same (drop (i + 1) l) (drop (i + 1) m)
-  same-more h k e f = e ∙ same-next h k ∙ rw (eq-eqb _ _ f)
-
-  pub same-end : length l ≤ i → length m ≤ i → same l m ≡ same (drop i l) (drop i m) → true ≡ same l m
-  unfolding same
-  same-end h k e = sym (e ∙ rw (drop-of-length-le l {i = i} h, drop-of-length-le m {i = i} k))
 
 pub like-none : (l : List ℕ) → like l [] ≡ true
 unfolding like

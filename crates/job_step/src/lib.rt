@@ -86,23 +86,6 @@ pub fn own_state(front: &[u8], length: u64) -> bool
     (length <= job::LENGTH as u64) & like(front, b"HDMK")
 }
 
-// Whether two texts are the same.
-fn same(a: &[u8], b: &[u8]) -> bool
-    ensures { λ r. ⌜ r ≡ same (now (a .entry)) (now (b .entry)) ⌝ }
-{
-    if a.len() != b.len() {
-        return false;
-    }
-    let mut i = 0;
-    while i < b.len() {
-        if a[i] != b[i] {
-            return false;
-        }
-        i += 1;
-    }
-    true
-}
-
 // Whether these bytes are the last ten samples of a state block, as they end a frame's form.
 fn own_tail(b: &[i16; 234], tail: &[u8]) -> bool
     ensures { λ r. ⌜ r ≡ same (now (tail .entry)) (last-printed (now (b .entry))) ⌝ }
@@ -112,7 +95,7 @@ fn own_tail(b: &[i16; 234], tail: &[u8]) -> bool
     block::words(b, STATE_LENGTH - FRAME_LENGTH, &mut samples);
     let mut form = [0u8; FRAME_ROOM];
     print::pcm(&samples, &mut form);
-    same(tail, &form[FRAME_ROOM - TAIL_ROOM..])
+    text::same(tail, &form[FRAME_ROOM - TAIL_ROOM..])
 }
 
 // Where in OUT the last TAIL_ROOM bytes begin that this job has written; 0 where there are none.

@@ -3,7 +3,6 @@ ghost use mathlib.Core.Path.{_≡_};
 ghost use mathlib.Core.Bool.{cond, false};
 ghost use Prim.Native.Nat.{_<_};
 ghost use lib.Dec.{eqb};
-ghost use Rattle.laws.specs.Bytes.{same};
 ghost use Rattle.options.specs.Options.{none, settled, no-path, decided, with-tables, with-operand, option, next, ended};
 
 // What a line asks for; from FILE on, why it can't be taken.
@@ -58,23 +57,6 @@ pub fn none() -> Asked
         third: 0,
         fourth: 0,
     }
-}
-
-// Whether a word is this text.
-fn is(word: &[u8], text: &[u8]) -> bool
-    ensures { λ r. ⌜ r ≡ same (now (word .entry)) (now (text .entry)) ⌝ }
-{
-    if word.len() != text.len() {
-        return false;
-    }
-    let mut i = 0;
-    while i < text.len() {
-        if word[i] != text[i] {
-            return false;
-        }
-        i += 1;
-    }
-    true
 }
 
 // Whether no further word changes what is asked.
@@ -152,13 +134,13 @@ fn option(tables: usize, word: &[u8]) -> u32
     requires { ⌜ no-path (now word) ≡ false ⌝ }
     ensures { λ r. ⌜ r ≡ option tables (now (word .entry)) ⌝ }
 {
-    if is(word, b"--help") {
+    if text::same(word, b"--help") {
         return HELP;
     }
-    if is(word, b"--version") {
+    if text::same(word, b"--version") {
         return VERSION;
     }
-    if is(word, b"--tables") {
+    if text::same(word, b"--tables") {
         if tables == 0 {
             return FILE;
         }

@@ -1,6 +1,7 @@
-// What the forms of text share (01, "The call text and the program"): hexadecimal digits and their values. Its definitions have texts as lists of bytes.
+// What the forms of text share (01, "The call text and the program"): hexadecimal digits and their values, and whether two texts are the same. Its definitions have texts as lists of bytes.
 ghost use mathlib.Core.Path.{_≡_};
 ghost use Prim.Native.Nat.{_%_, _<_};
+ghost use Rattle.laws.specs.Bytes.{same};
 ghost use Rattle.laws.specs.Digits.{digit, is-digit, value};
 
 // The digit of a number's low four bits.
@@ -48,4 +49,21 @@ pub fn value(b: u8) -> u8
         return b - 87;
     }
     0
+}
+
+// Whether two texts are the same.
+pub fn same(a: &[u8], b: &[u8]) -> bool
+    ensures { λ r. ⌜ r ≡ same (now (a .entry)) (now (b .entry)) ⌝ }
+{
+    if a.len() != b.len() {
+        return false;
+    }
+    let mut i = 0;
+    while i < b.len() {
+        if a[i] != b[i] {
+            return false;
+        }
+        i += 1;
+    }
+    true
 }

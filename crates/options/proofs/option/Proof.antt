@@ -10,13 +10,13 @@ use Rattle.options.proofs.option.Tie as tie
 
 returns : tie.Need-returns
 unfolding option
-returns c = rw (sym (c .before .is .ensures) ∙ c .if1 .taken)
+returns c = rw (sym (c .before .same .ensures) ∙ c .if1 .taken)
 
 returns-2 : tie.Need-returns-2
 unfolding option
 returns-2 c =
     let h = c .before .before .before in
-    rw (sym (h .before .is .ensures) ∙ h .if1 .left, sym (c .before .is2 .ensures) ∙ c .if2 .taken)
+    rw (sym (h .before .same .ensures) ∙ h .if1 .left, sym (c .before .same2 .ensures) ∙ c .if2 .taken)
 
 returns-3 : tie.Need-returns-3
 unfolding option
@@ -25,9 +25,9 @@ returns-3 c =
     let v = t .before .before .before in
     let h = v .before .before .before in
     rw (
-      sym (h .before .is .ensures) ∙ h .if1 .left,
-      sym (v .before .is2 .ensures) ∙ v .if2 .left,
-      sym (t .before .is3 .ensures) ∙ t .if3 .taken,
+      sym (h .before .same .ensures) ∙ h .if1 .left,
+      sym (v .before .same2 .ensures) ∙ v .if2 .left,
+      sym (t .before .same3 .ensures) ∙ t .if3 .taken,
       eq-eqb (h .before .before .before .before .args .tables) 0 (omega arith),
     )
 
@@ -38,9 +38,9 @@ returns-4 c =
     let v = t .before .before .before in
     let h = v .before .before .before in
     rw (
-      sym (h .before .is .ensures) ∙ h .if1 .left,
-      sym (v .before .is2 .ensures) ∙ v .if2 .left,
-      sym (t .before .is3 .ensures) ∙ t .if3 .taken,
+      sym (h .before .same .ensures) ∙ h .if1 .left,
+      sym (v .before .same2 .ensures) ∙ v .if2 .left,
+      sym (t .before .same3 .ensures) ∙ t .if3 .taken,
       ne-eqb (h .before .before .before .before .args .tables) 0 (λ e. omega arith),
     )
 
@@ -56,9 +56,9 @@ returns-5 c =
     let v = t .before .before .before in
     let h = v .before .before .before in
     rw (
-      sym (h .before .is .ensures) ∙ h .if1 .left,
-      sym (v .before .is2 .ensures) ∙ v .if2 .left,
-      sym (t .before .is3 .ensures) ∙ t .if3 .left,
+      sym (h .before .same .ensures) ∙ h .if1 .left,
+      sym (v .before .same2 .ensures) ∙ v .if2 .left,
+      sym (t .before .same3 .ensures) ∙ t .if3 .left,
       eq-eqb _ 45 (c .if5 .taken),
     )
 
@@ -69,9 +69,9 @@ returns-6 c =
     let v = t .before .before .before in
     let h = v .before .before .before in
     rw (
-      sym (h .before .is .ensures) ∙ h .if1 .left,
-      sym (v .before .is2 .ensures) ∙ v .if2 .left,
-      sym (t .before .is3 .ensures) ∙ t .if3 .left,
+      sym (h .before .same .ensures) ∙ h .if1 .left,
+      sym (v .before .same2 .ensures) ∙ v .if2 .left,
+      sym (t .before .same3 .ensures) ∙ t .if3 .left,
       ne-eqb _ 45 (c .if5 .left),
     )
 
