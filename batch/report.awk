@@ -1,6 +1,6 @@
 # What came of some calls: awk -f report.awk -- PART SUM DIGEST CALL .. (in the C locale). PART/NAME.samples is what the program printed for the file CALL. It
 # prints a row of the summary for each call, and for those with a whole output writes PART/NAME.row, by which decode-some tells what is done. SUM is
-# the check sum of the tables.
+# the check sum of the tables. For a call that was not decoded DIGEST is the result, unreadable or foreign.
 #
 # An output is whole if it ends with the total of the call's lines, or with the refusal of the line behind those that it has samples for.
 
@@ -15,7 +15,7 @@ function row(digest, call,   name, result, form) {
 	name = call
 	sub(/.*\//, "", name)
 	sub(/\.call$/, "", name)
-	if (digest == "unreadable") {
+	if (digest == "unreadable" || digest == "foreign") {
 		print digest, escaped(name), "-", "-", "-", "-", "-", "-", "-", "-", "-", "-", "-", "-", "-"
 		return
 	}
