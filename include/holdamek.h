@@ -1,5 +1,6 @@
 /* Holdamek: the six operations of a G.729 voice path, and the writing of a line, as C functions (x86-64 Linux; C99 or later, C++).
  * `rt staticlib holdamek` makes target/staticlib/libholdamek.a:  cc -Iinclude program.c target/staticlib/libholdamek.a
+ * Installed (`make install`):  cc program.c $(pkg-config --cflags --libs holdamek)
  *
  * Each function returns 0 or the number of the first refusal that applies, in the order of its list below. A refusal leaves all lent
  * memory as it was. Nothing is allocated, no function keeps anything between two calls, and none waits or calls the system, so
@@ -16,6 +17,12 @@
 
 #include <stddef.h>
 #include <stdint.h>
+
+/* The version of header and library; the shared library has the first number in its name. */
+#define HOLDAMEK_VERSION "0.2.0"
+#define HOLDAMEK_VERSION_MAJOR 0
+#define HOLDAMEK_VERSION_MINOR 2
+#define HOLDAMEK_VERSION_PATCH 0
 
 #ifdef __cplusplus
 extern "C" {

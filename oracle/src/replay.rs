@@ -136,8 +136,11 @@ fn often(rng: &mut Rng, right: i16, others: &[i16]) -> i16 {
     }
 }
 
-/// Lengths and words that the operations refuse or not, and the number of each one's answer.
-fn refusal_words(rng: &mut Rng) -> [i16; 13] {
+/// The word that all lent memory holds, which a refusal leaves there.
+const LENT: i16 = 7;
+
+/// Lengths and words that the operations refuse or not, the number of each one's answer, and `LENT`.
+fn refusal_words(rng: &mut Rng) -> [i16; 14] {
     let kind = often(rng, 0, &[1, 2, 3, 4, 5, 0x7fff, -1]);
     let payload = [10, 2, 0, 0].get(kind as usize).copied().unwrap_or(0);
     let arguments = [
@@ -152,9 +155,9 @@ fn refusal_words(rng: &mut Rng) -> [i16; 13] {
         often(rng, 15, &[0, 1, 14, 16, 20]),
     ];
     let codes = refusals(arguments);
-    let mut words = [0; 13];
+    let mut words = [LENT; 14];
     words[..9].copy_from_slice(&arguments);
-    words[9..].copy_from_slice(&codes);
+    words[9..13].copy_from_slice(&codes);
     words
 }
 

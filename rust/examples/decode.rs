@@ -1,7 +1,9 @@
 //! The decoding program in Rust over the library: decode TABLES <call >samples. It prints `(pcm H)` for each frame and then
-//! `(total (frames N) (lost M))`, or `(refused (code C) (line L))` as its last form with exit status 1.
+//! `(total (frames N) (lost M))`, or `(refused (code C) (line L))` as its last form with exit status 1. Where the call can't be read
+//! or the samples can't be written it says why on standard error, with exit status 2.
 
-use holdamek::{Counts, Decoder, Frame, Refusal, Samples, TableBlock, LONGEST_LINE};
+use holdamek::{Counts, Decoder, Frame, Refusal, Samples, TableBlock};
+use holdamek::{FRAME_SAMPLES, LONGEST_LINE};
 use std::io::{self, BufRead, Read, Write};
 use std::process::ExitCode;
 
@@ -11,7 +13,10 @@ fn main() -> ExitCode {
         return ExitCode::from(2);
     };
     // A file that can't be read is refused like an empty one.
-    let file = std::fs::read(path).unwrap_or_default();
+    let file = std::fs::read(&path).unwrap_or_else(|error| {
+        eprintln!("{path}: {error}");
+        Vec::new()
+    });
     let mut out = io::BufWriter::new(io::stdout().lock());
     match decode(&file, &mut io::stdin().lock(), &mut out)
         .and_then(|code| out.flush().map(|()| code))
@@ -63,11 +68,16 @@ fn next(decoder: &mut Decoder, counts: &mut Counts, line: &[u8]) -> Result<Sampl
     decoder.decode(&frame)
 }
 
+/// Four digits for each sample; a `write!` for each would take longer than decoding it.
 fn print(samples: &Samples, out: &mut impl Write) -> io::Result<()> {
-    out.write_all(b"(pcm ")?;
-    for sample in samples {
-        write!(out, "{sample:04x}")?;
+    let mut digits = [0; 4 * FRAME_SAMPLES];
+    for (four, sample) in digits.chunks_exact_mut(4).zip(samples) {
+        let [high, low] = sample.to_be_bytes().map(usize::from);
+        let nibbles = [high >> 4, high & 15, low >> 4, low & 15];
+        four.copy_from_slice(&nibbles.map(|nibble| b"0123456789abcdef"[nibble]));
     }
+    out.write_all(b"(pcm ")?;
+    out.write_all(&digits)?;
     out.write_all(b")\n")
 }
 

@@ -4,8 +4,8 @@ use holdamek::{fields, Counts, Decoder, Frame, Refusal, StateBlock, TableBlock};
 use holdamek::{LONGEST_LINE, MOST_FRAMES, STATE_WORDS, TABLE_WORDS};
 
 const TABLES: &[u8] = include_bytes!("../../examples/tables.g729");
-const CALL: &[u8] = include_bytes!("../../examples/call.txt");
-const PCM: &str = include_str!("../../examples/call.pcm");
+const CALL: &[u8] = include_bytes!("../../examples/example.call");
+const SAMPLES: &str = include_str!("../../examples/example.samples");
 
 fn tables() -> TableBlock {
     TableBlock::from_bytes(TABLES).unwrap()
@@ -28,7 +28,7 @@ fn samples_of_the_example() {
     let tables = tables();
     let mut decoder = Decoder::new(&tables).unwrap();
     let mut counts = Counts::default();
-    let mut due = PCM.lines();
+    let mut due = SAMPLES.lines();
     for frame in call() {
         counts.count(&frame).unwrap();
         let samples = decoder.decode(&frame).unwrap();
@@ -194,7 +194,7 @@ fn threads_share_tables() {
         for _ in 0..4 {
             scope.spawn(|| {
                 let mut decoder = Decoder::new(&tables).unwrap();
-                for (frame, due) in call.iter().zip(PCM.lines()) {
+                for (frame, due) in call.iter().zip(SAMPLES.lines()) {
                     assert_eq!(text(&decoder.decode(frame).unwrap()), due);
                 }
             });

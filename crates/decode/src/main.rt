@@ -1,96 +1,80 @@
-// The decoding program (01, "The call text and the program"): tables from the file `tables.g729`, a call from standard input, samples and the last form to standard
-// output. What is printed is `output` of call.specs.Call; no contract can say what is read or written, so the work is done by crate call on slices.
-ghost use Prim.Native.Nat.{_≤_, _<_};
-ghost use lib.ListN.{length};
-ghost use Rattle.print.specs.Print.{form-room};
+// The decoding program `decode [--tables FILE] [CALL]` (01, "The call text and the program"): tables from a file, a call from standard input or a file, samples and the
+// last form to standard output. What is printed is `output` of call.specs.Call. No contract can say what is read or written, so the work is done on lent memory, by
+// crate read_step; whole_call.specs.Reads has what its reads print together.
+ghost use mathlib.Core.Path.{_≡_};
+ghost use Prim.Native.Nat.{_+_, _≤_, _<_};
+ghost use lib.ListN.{length, take};
+ghost use Rattle.read_step.specs.Reading.{input-room};
 use libc::STDIN_FILENO;
-use libc::STDOUT_FILENO;
-use line_step::Progress;
 use print::FORM_ROOM;
+use read_step::INPUT;
+use read_step::OUTPUT;
+use read_step::Reading;
 
-// As many lines or turns as there can be.
+const USAGE: [u8; 37] = *b"usage: decode [--tables FILE] [CALL]\n";
+
+// As many reads as there can be.
 const MOST: u32 = 4294967295;
 
-// Where the program is: how far the call is, the bytes of the input buffer that are not used yet, and whether it goes on.
-struct Place {
-    job: Progress,
-    from: usize,
-    to: usize,
-    more: bool,
-    // False where standard input could not be read, or standard output not written.
+// What a read gave: how many bytes, 0 at the end; and whether it was good.
+struct Got {
+    bytes: usize,
     good: bool,
 }
 
-// Writes to standard output; false, with a message on standard error, where that fails.
-fn write(text: &[u8]) -> bool {
-    let done = io::write_all(STDOUT_FILENO, text);
-    if !done {
-        os::fail(b"standard output");
-    }
-    done
-}
-
-// Writes the front of a last form.
-fn write_form(form: &[u8; FORM_ROOM], n: usize) -> bool
-    requires { ⌜ n ≤ form-room ⌝ }
-{
-    let text: &[u8] = form;
-    write(&text[0..n])
+// Where the program is: where the call stands, whether it goes on, and whether it could be read and standard output written.
+struct Place {
+    call: Reading,
+    more: bool,
+    good: bool,
 }
 
 // Whether a read was good; where it failed, a message on standard error.
-fn good_read(answer: isize) -> bool {
+fn good_read(answer: isize, name: &[u8]) -> bool {
     if answer < 0 {
-        os::fail(b"standard input");
+        os::fail(name);
         return false;
     }
     true
 }
 
-// Reads on behind the bytes that are kept. Nothing goes on behind a read that failed.
-fn read(job: Progress, from: usize, to: usize, input: &mut [u8]) -> Place
-    ensures { λ r. ⌜ (r .from ≤ r .to) × (r .to ≤ length (now (input .entry))) ⌝ }
+// Reads behind the bytes held, which stay as they are.
+fn read(fd: i32, name: &[u8], held: usize, input: &mut [u8]) -> Got
+    requires { ⌜ held ≤ length (now input) ⌝ }
+    ensures { λ r. ⌜ (take held (now (input .exit)) ≡ take held (now (input .entry))) × (held + r .bytes ≤ length (now (input .entry))) ⌝ }
 {
-    let kept = call::keep(input, from, to);
-    let answer = libc::read(STDIN_FILENO, &mut input[kept..]);
-    let good = good_read(answer);
-    let got = io::count(answer, &input[kept..]);
+    let answer = libc::read(fd, &mut input[held..]);
+    let good = good_read(answer, name);
+    let bytes = io::count(answer, &input[held..]);
+    Got { bytes, good }
+}
+
+// One read of the call, and what its lines print. None follows the end, a refusal or a failure.
+fn turn(
+    t: &[i16; 1880],
+    b: &mut [i16; 234],
+    from: Reading,
+    fd: i32,
+    name: &[u8],
+    input: &mut [u8; INPUT],
+    out: &mut [u8; OUTPUT],
+) -> Place
+    requires { ⌜ from .held ≤ input-room ⌝ }
+    ensures { λ r. ⌜ r .call .held ≤ input-room ⌝ }
+{
+    let got = read(fd, name, from.held, input);
+    let call = read_step::read_step(t, b, from, got.bytes, input, out);
+    let text: &[u8] = out;
+    let written = call.written;
+    let good = files::write(&text[0..written]) && got.good;
     Place {
-        job,
-        from: 0,
-        to: kept + got,
-        more: 0 < got,
+        call,
+        more: good && 0 < got.bytes && call.job.code == 0,
         good,
     }
 }
 
-// The whole lines that are there, as many as the output buffer has room for; where there is none, reads on.
-fn turn(t: &[i16], b: &mut [i16], p: Place, input: &mut [u8], out: &mut [u8]) -> Place
-    requires { ⌜ (p .from ≤ p .to) × (p .to ≤ length (now input)) ⌝ }
-    ensures { λ r. ⌜ (r .from ≤ r .to) × (r .to ≤ length (now (input .entry))) ⌝ }
-{
-    let from = p.from;
-    let to = p.to;
-    let job = p.job;
-    let taken = call::turn(t, b, job, MOST, &input[from..to], out);
-    let next = taken.job;
-    let at = from + taken.used;
-    let written = taken.written;
-    let good = write(&out[0..written]);
-    let more = good && next.code == 0;
-    if more && written == 0 {
-        return read(next, at, to, input);
-    }
-    Place {
-        job: next,
-        from: at,
-        to,
-        more,
-        good,
-    }
-}
-
-// How many turns may follow.
+// How many reads may follow.
 fn rest(most: u32, more: bool) -> u32
     requires { ⌜ 0 < most ⌝ }
     ensures { λ r. ⌜ r < most ⌝ }
@@ -98,68 +82,86 @@ fn rest(most: u32, more: bool) -> u32
     if more { most - 1 } else { 0 }
 }
 
-// The last form, unless standard input or output failed.
-fn end(p: Place, input: &[u8])
-    requires { ⌜ (p .from ≤ p .to) × (p .to ≤ length (now input)) ⌝ }
-{
-    if p.good {
-        let from = p.from;
-        let to = p.to;
-        let job = p.job;
-        let mut form = [0u8; FORM_ROOM];
-        let n = call::finish(job, &input[from..to], &mut form);
-        write_form(&form, n);
-    }
+// The last form of a call.
+fn end(call: Reading, input: &[u8; INPUT]) {
+    let mut form = [0u8; FORM_ROOM];
+    let n = read_step::finish(call, input, &mut form);
+    files::print(&form, n);
 }
 
-// All lines of a call. Each turn takes a line, of which Count limits the number, or reads at least one byte, of which a line has a few, so there are fewer turns than MOST.
-fn decode(t: &[i16], b: &mut [i16]) {
-    let mut input_buffer = io::large_buffer();
-    let mut out_buffer = io::large_buffer();
-    let input: &mut [u8] = &mut input_buffer;
-    let out: &mut [u8] = &mut out_buffer;
+// A whole call. Each read but the last gives at least one byte, of which Count and the longest line limit the number, so there are fewer than MOST. There is no last form
+// where the call could not be read, or standard output not written.
+fn decode(t: &[i16; 1880], b: &mut [i16; 234], fd: i32, name: &[u8]) {
+    let mut input = [0u8; INPUT];
+    let mut out = [0u8; OUTPUT];
+    let call = read_step::start();
     let mut p = Place {
-        job: call::start(),
-        from: 0,
-        to: 0,
+        call,
         more: true,
         good: true,
     };
     let mut most: u32 = MOST;
     while 0 < most {
-        p = turn(t, b, p, input, out);
+        let from = p.call;
+        p = turn(t, b, from, fd, name, &mut input, &mut out);
         most = rest(most, p.more);
     }
-    end(p, input);
+    if p.good {
+        let last = p.call;
+        end(last, &input);
+    }
 }
 
-// The bytes of the table file, as many as there is room for; none where it can't be opened.
-fn read_tables(file: &mut [u8]) -> usize
-    ensures { λ r. ⌜ r ≤ length (now (file .entry)) ⌝ }
-{
-    let name = b"tables.g729";
-    let fd = os::open_read(name);
-    if fd < 0 {
-        os::fail(name);
-        return 0;
+// The call: the file of this name, or standard input, which may be a terminal. Below 0, with a message, where the file can't be opened.
+fn open(given: bool, name: &[u8]) -> i32 {
+    if given {
+        let fd = os::open_read(name);
+        if fd < 0 {
+            os::fail(name);
+        }
+        return fd;
     }
-    let n = io::read_full(fd, file);
-    libc::close(fd);
-    n
+    if libc::isatty(STDIN_FILENO) == 1 {
+        files::say(
+            b"decode",
+            b"reading a call from the terminal; end it with Ctrl-D (decode --help tells more)",
+        );
+    }
+    STDIN_FILENO
+}
+
+// The tables are checked before the call is opened.
+fn run(tables: &[u8], given: bool, name: &[u8]) {
+    let mut t = [0i16; 1880];
+    let mut b = [0i16; 234];
+    let checked = files::tables(tables, &mut t, &mut b);
+    if checked.code != 0 {
+        let mut form = [0u8; FORM_ROOM];
+        let n = print::refused(checked.code, 0, &mut form);
+        files::print(&form, n);
+        return;
+    }
+    let fd = open(given, name);
+    if 0 <= fd {
+        decode(&t, &mut b, fd, name);
+    }
 }
 
 fn main() {
-    // One byte more than the tables have, so that a longer file is noticed.
-    let mut file = [0u8; 3761];
-    let mut t = [0i16; 1880];
-    let mut b = [0i16; 234];
-    let n = read_tables(&mut file);
-    let code = call::begin(&file[0..n], &mut t, &mut b);
-    if code == 0 {
-        decode(&t, &mut b);
+    let a = files::asked(0, 1);
+    let usage = USAGE;
+    let done = files::answered(
+        a,
+        b"decode",
+        &usage,
+        b"Decodes a call, a frame a line, to samples on standard output: a line for each frame, then its total, or the code and the line of its refusal.\n\n  decode <monday.call >monday.samples\n  decode --tables site/tables.g729 monday.call >monday.samples\n\n  CALL            a file or a named pipe; else the call is read from standard input\n  --tables FILE   the tables, 3,760 bytes; else tables.g729 of this folder\n  --help          this text\n  --version       the version\n",
+    );
+    if done {
         return;
     }
-    let mut form = [0u8; FORM_ROOM];
-    let length = print::refused(code, 0, &mut form);
-    write_form(&form, length);
+    let mut tables = io::buffer();
+    let mut name = io::buffer();
+    let n = files::argument(a.tables, b"tables.g729", &mut tables);
+    let m = files::argument(a.first, b"standard input", &mut name);
+    run(&tables[0..n], a.first != 0, &name[0..m]);
 }

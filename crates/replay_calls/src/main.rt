@@ -1,27 +1,29 @@
-// Replays texts of calls through crate call, in reads and outputs of given sizes, and prints what they give; what must be printed is the Rust's answer.
-// Standard input: 3,760 bytes of tables; then for each call five numbers of four bytes, low byte first (length of the text, bytes of a read, bytes of output lent,
-// the lines, each a frame, and lost frames to start with) and its text, at most 65,536 bytes.
+// Replays texts of calls through crate read_step, in reads of given sizes, and prints what they give; what must be printed is the Rust's answer.
+// Standard input: 3,760 bytes of tables; then for each call four numbers of four bytes, low byte first (length of the text, bytes of a read, the lines, each a
+// frame, and lost frames to start with) and its text, at most 65,536 bytes.
 ghost use Prim.Native.Nat.{_≤_, _<_, _+_};
 ghost use lib.ListN.{length};
 ghost use Rattle.print.specs.Print.{form-room};
+ghost use Rattle.read_step.specs.Reading.{input-room};
 use libc::STDIN_FILENO;
 use libc::STDOUT_FILENO;
 use line_step::Progress;
 use print::FORM_ROOM;
+use read_step::INPUT;
+use read_step::OUTPUT;
+use read_step::Reading;
 
-// As many lines, turns or calls as there can be.
+// As many reads or calls as there can be.
 const MOST: u32 = 4294967295;
 
-// Where a call is: how far it is, the bytes of the input buffer that are not used yet, the place in the text, and whether it goes on.
+// Where a call is: where it stands, the place in its text, and whether it goes on.
 struct Place {
-    job: Progress,
-    from: usize,
-    to: usize,
+    call: Reading,
     at: usize,
     more: bool,
 }
 
-// A read: bytes of the text from `at` on to the input buffer from `to` on, `size` at most.
+// A read: bytes of the text from `at` on to the input from `to` on, `size` at most.
 fn feed(text: &[u8], at: usize, size: usize, input: &mut [u8], to: usize) -> usize
     requires { ⌜ (at ≤ length (now text)) × (to ≤ length (now input)) ⌝ }
     ensures { λ r. ⌜ (at + r ≤ length (now (text .entry))) × (to + r ≤ length (now (input .entry))) ⌝ }
@@ -35,79 +37,31 @@ fn feed(text: &[u8], at: usize, size: usize, input: &mut [u8], to: usize) -> usi
     n
 }
 
-// Reads on behind the bytes that are kept.
-fn read(
-    job: Progress,
-    from: usize,
-    to: usize,
-    text: &[u8],
-    place: usize,
-    size: usize,
-    input: &mut [u8],
-) -> Place
-    ensures { λ r. ⌜ (r .from ≤ r .to) × (r .to ≤ length (now (input .entry))) ⌝ }
-{
-    let at = words::lesser(place, text.len());
-    let kept = call::keep(input, from, to);
-    let got = feed(text, at, size, input, kept);
-    Place {
-        job,
-        from: 0,
-        to: kept + got,
-        at: at + got,
-        more: 0 < got,
-    }
-}
-
-// The whole lines that are there, as many as the output has room for; `more` says whether there was one.
-fn decode(t: &[i16], b: &mut [i16], p: Place, input: &[u8], out: &mut [u8]) -> Place
-    requires { ⌜ (p .from ≤ p .to) × (p .to ≤ length (now input)) ⌝ }
-    ensures { λ r. ⌜ (r .from ≤ r .to) × (r .to ≤ length (now (input .entry))) ⌝ }
-{
-    let from = p.from;
-    let to = p.to;
-    let job = p.job;
-    let taken = call::turn(t, b, job, MOST, &input[from..to], out);
-    let next = taken.job;
-    let written = taken.written;
-    io::write_all(STDOUT_FILENO, &out[0..written]);
-    Place {
-        job: next,
-        from: from + taken.used,
-        to,
-        at: p.at,
-        more: 0 < written,
-    }
-}
-
-// A turn: lines, or a read where there is none; none follows a refusal.
+// One read, and what its lines print. None follows the end or a refusal.
 fn turn(
     t: &[i16],
     b: &mut [i16],
     p: Place,
     text: &[u8],
     size: usize,
-    input: &mut [u8],
-    out: &mut [u8],
+    input: &mut [u8; INPUT],
+    out: &mut [u8; OUTPUT],
 ) -> Place
-    requires { ⌜ (p .from ≤ p .to) × (p .to ≤ length (now input)) ⌝ }
-    ensures { λ r. ⌜ (r .from ≤ r .to) × (r .to ≤ length (now (input .entry))) ⌝ }
+    requires { ⌜ (p .call .held ≤ input-room) × (p .at ≤ length (now text)) ⌝ }
+    ensures { λ r. ⌜ (r .call .held ≤ input-room) × (r .at ≤ length (now (text .entry))) ⌝ }
 {
-    let q = decode(t, b, p, input, out);
-    let job = q.job;
-    if job.code != 0 {
-        return Place {
-            job,
-            from: q.from,
-            to: q.to,
-            at: q.at,
-            more: false,
-        };
+    let from = p.call;
+    let got = feed(text, p.at, size, input, from.held);
+    let at = p.at + got;
+    let call = read_step::read_step(t, b, from, got, input, out);
+    let printed: &[u8] = out;
+    let written = call.written;
+    io::write_all(STDOUT_FILENO, &printed[0..written]);
+    Place {
+        call,
+        at,
+        more: 0 < got && call.job.code == 0,
     }
-    if q.more {
-        return q;
-    }
-    read(job, q.from, q.to, text, q.at, size, input)
 }
 
 fn write_form(form: &[u8; FORM_ROOM], n: usize)
@@ -117,39 +71,31 @@ fn write_form(form: &[u8; FORM_ROOM], n: usize)
     io::write_all(STDOUT_FILENO, &text[0..n]);
 }
 
-fn end(p: Place, input: &[u8])
-    requires { ⌜ (p .from ≤ p .to) × (p .to ≤ length (now input)) ⌝ }
-{
-    let from = p.from;
-    let to = p.to;
-    let job = p.job;
-    let mut form = [0u8; FORM_ROOM];
-    let n = call::finish(job, &input[from..to], &mut form);
-    write_form(&form, n);
-}
-
 // One call.
-fn replay(t: &[i16], b: &mut [i16], job: Progress, text: &[u8], size: usize, out: &mut [u8]) {
-    let mut buffer = io::buffer();
-    let input: &mut [u8] = &mut buffer;
+fn replay(t: &[i16], b: &mut [i16], call: Reading, text: &[u8], size: usize)
+    requires { ⌜ call .held ≤ input-room ⌝ }
+{
+    let mut input = [0u8; INPUT];
+    let mut out = [0u8; OUTPUT];
     let mut p = Place {
-        job,
-        from: 0,
-        to: 0,
+        call,
         at: 0,
         more: true,
     };
     let mut most: u32 = MOST;
     while 0 < most {
-        p = turn(t, b, p, text, size, input, out);
+        p = turn(t, b, p, text, size, &mut input, &mut out);
         most = replay::rest(most, p.more);
     }
-    end(p, input);
+    let last = p.call;
+    let mut form = [0u8; FORM_ROOM];
+    let n = read_step::finish(last, &input, &mut form);
+    write_form(&form, n);
 }
 
-// Number k of a call's five.
+// Number k of a call's four.
 fn number(head: &[u8], k: usize) -> usize
-    requires { ⌜ k < 5 ⌝ }
+    requires { ⌜ k < 4 ⌝ }
 {
     let from = 4 * k;
     let to = from + 4;
@@ -161,26 +107,30 @@ fn number(head: &[u8], k: usize) -> usize
 }
 
 // The next call. False at the end.
-fn case(t: &[i16], b: &mut [i16], text: &mut [u8], out: &mut [u8]) -> bool {
-    let mut space = [0u8; 20];
+fn case(t: &[i16], b: &mut [i16], text: &mut [u8]) -> bool {
+    let mut space = [0u8; 16];
     let head: &mut [u8] = &mut space;
     let n = io::read_full(STDIN_FILENO, head);
-    if n < 20 {
+    if n < 16 {
         return false;
     }
     let length = words::lesser(number(head, 0), text.len());
-    let room = words::lesser(number(head, 2), out.len());
-    let frames = number(head, 3);
-    let counts = count::of_numbers([frames as u64, number(head, 4) as u64]);
+    let frames = number(head, 2);
+    let counts = count::of_numbers([frames as u64, number(head, 3) as u64]);
     let job = Progress {
         code: 0,
         lines: (frames % 4294967296) as u32,
         counts,
     };
+    let call = Reading {
+        job,
+        held: 0,
+        written: 0,
+    };
     let size = number(head, 1);
     state::fresh_state(t, b);
     let got = io::read_full(STDIN_FILENO, &mut text[0..length]);
-    replay(t, b, job, &text[0..length], size, &mut out[0..room]);
+    replay(t, b, call, &text[0..length], size);
     got == length
 }
 
@@ -191,12 +141,10 @@ fn main() {
     io::read_full(STDIN_FILENO, &mut file);
     call::begin(&file, &mut t, &mut b);
     let mut text_buffer = io::large_buffer();
-    let mut out_buffer = io::large_buffer();
     let text: &mut [u8] = &mut text_buffer;
-    let out: &mut [u8] = &mut out_buffer;
     let mut most: u32 = MOST;
     while 0 < most {
-        let more = case(&t, &mut b, text, out);
+        let more = case(&t, &mut b, text);
         most = replay::rest(most, more);
     }
 }

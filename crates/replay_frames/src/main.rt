@@ -110,8 +110,8 @@ fn end_line(whole: &[i16; 234], resumed: &mut [i16; 234], tally: &mut [u32; 64])
 }
 
 fn refusal_line(tally: &mut [u32; 64]) -> bool {
-    let mut text = [0u8; 53];
-    let mut words = [0i16; 13];
+    let mut text = [0u8; 57];
+    let mut words = [0i16; 14];
     if read_words(&mut text, &mut words) {
         refusals::line(&words, tally);
         return true;

@@ -1,6 +1,6 @@
 // Arguments that the operations refuse, or not: 1 to 8.
 // A line's words: length of the tables and initial delay, length of the state, predictor and delay, kind, lengths of the payload, of the
-// samples and of the receiver; then the answers of table check, fresh state, frame and fields.
+// samples and of the receiver; then the answers of table check, fresh state, frame and fields; and the word that lent memory holds, which a refusal leaves there.
 ghost use Prim.Native.Nat.{_≤_};
 use crate::rows;
 use replay::part;
@@ -20,9 +20,17 @@ fn tables_of(line: &[i16]) -> [i16; 1900] {
     t
 }
 
-// A state block of sevens but for the predictor and the delay.
-fn state_of(line: &[i16]) -> [i16; 250] {
-    let mut b = [7i16; 250];
+// The word that lent memory holds before a call.
+const LENT: i16 = 7;
+
+// The same as the line has it.
+fn lent_of(line: &[i16]) -> i16 {
+    part::word(line, 13, 0)
+}
+
+// A state block of one word but for the predictor and the delay.
+fn state_of(line: &[i16], lent: i16) -> [i16; 250] {
+    let mut b = [lent; 250];
     b[40] = part::word(line, 3, 0);
     b[61] = part::word(line, 4, 0);
     b
@@ -71,38 +79,38 @@ fn answer(line: &[i16], at: usize, found: u32, tally: &mut [u32; 64]) {
 }
 
 // A refused call leaves the state as it was.
-fn same_state(before: [i16; 250], after: [i16; 250], tally: &mut [u32; 64]) {
-    tally::words(tally, rows::UNCHANGED, &before, 0, &after);
+fn same_state(line: &[i16], after: [i16; 250], tally: &mut [u32; 64]) {
+    let due = state_of(line, lent_of(line));
+    tally::words(tally, rows::UNCHANGED, &due, 0, &after);
 }
 
 // A refused call leaves the samples as they were.
-fn same_samples(out: [i16; 100], tally: &mut [u32; 64]) {
-    let sevens = [7i16; 100];
-    tally::words(tally, rows::UNCHANGED, &sevens, 0, &out);
+fn same_samples(line: &[i16], out: [i16; 100], tally: &mut [u32; 64]) {
+    let lent = lent_of(line);
+    let due = [lent; 100];
+    tally::words(tally, rows::UNCHANGED, &due, 0, &out);
 }
 
 fn fresh_state_call(line: &[i16], tally: &mut [u32; 64]) {
     let t = tables_of(line);
-    let before = state_of(line);
-    let mut b = before;
+    let mut b = state_of(line, LENT);
     let code = fresh_state(line, &t, &mut b);
     answer(line, 10, code, tally);
     if code != 0 {
-        same_state(before, b, tally);
+        same_state(line, b, tally);
     }
 }
 
 fn frame_call(line: &[i16], tally: &mut [u32; 64]) {
     let t = tables_of(line);
-    let before = state_of(line);
     let payload = [0u8; 16];
-    let mut b = before;
-    let mut out = [7i16; 100];
+    let mut b = state_of(line, LENT);
+    let mut out = [LENT; 100];
     let code = frame(line, &t, &mut b, &payload, &mut out);
     answer(line, 11, code, tally);
     if code != 0 {
-        same_state(before, b, tally);
-        same_samples(out, tally);
+        same_state(line, b, tally);
+        same_samples(line, out, tally);
     }
 }
 

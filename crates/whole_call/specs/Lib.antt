@@ -3,3 +3,4 @@ pub mod Whole
 pub mod Counting
 pub mod Codes
 pub mod Ending
+pub mod Reads

@@ -222,29 +222,33 @@ text-first (read r) l = rw (append-nil r)
 text-first (take-lines most room) l = refl
 text-first test-overlong l = refl
 
-all-acts : (t : List ℤ) (l : List Act) (h : Held) (rest : List ℕ)
+pub all-acts : (t : List ℤ) (l : List Act) (h : Held) (rest : List ℕ)
     → h .written ++ printed t (h .job) [] (h .bytes ++ (text-of l ++ rest)) ≡ acts t l h .written ++ printed t (acts t l h .job) [] (acts t l h .bytes ++ rest)
 unfolding acts text-of
 all-acts t [] h rest = refl
 all-acts t (a ∷ l) h rest = rw (text-first a l, append-assoc (text-of (a ∷ [])) (text-of l) rest) (one-act t a h (text-of l ++ rest) ∙ all-acts t l (act t a h) rest)
 
--- what was written and the last form are all that is printed
-pub record Whole (t : List ℤ) (l : List Act) (job : Job) (h : Held) : Type 0 where
-  -- where the text has ended, and no whole line is held
-  pub at-end : to-feed (h .bytes) ≡ length (h .bytes) → h .written ++ last-of (h .job) (h .bytes) ≡ printed t job [] (text-of l)
-  -- where a line was refused, whatever follows
-  pub at-refusal : (h .job .progress .code ≡ 0 → ⊥) → (rest : List ℕ) → h .written ++ last-of (h .job) (h .bytes) ≡ printed t job [] (text-of l ++ rest)
+-- what was written, and what is printed of the bytes held and whatever follows, is what is printed of a text and that
+abbrev pub SoFar : List ℤ → Job → List ℕ → Held → Type 0
+SoFar t job text h = (rest : List ℕ) → h .written ++ printed t (h .job) [] (h .bytes ++ rest) ≡ printed t job [] (text ++ rest)
 
-pub whole : (t : List ℤ) (l : List Act) (job : Job) → Whole t l job (acts t l (record { job = job; bytes = []; written = [] }))
+-- what was written and the last form are all that is printed
+pub record Whole (t : List ℤ) (job : Job) (text : List ℕ) (h : Held) : Type 0 where
+  -- where the text has ended, and no whole line is held
+  pub at-end : to-feed (h .bytes) ≡ length (h .bytes) → h .written ++ last-of (h .job) (h .bytes) ≡ printed t job [] text
+  -- where a line was refused, whatever follows
+  pub at-refusal : (h .job .progress .code ≡ 0 → ⊥) → (rest : List ℕ) → h .written ++ last-of (h .job) (h .bytes) ≡ printed t job [] (text ++ rest)
+
+pub whole-of : (t : List ℤ) (job : Job) (text : List ℕ) (h : Held) → SoFar t job text h → Whole t job text h
 unfolding printed
-whole t l job =
-    let start : Held = record { job = job; bytes = []; written = [] } in
-    let h : Held = acts t l start in
+whole-of t job text h f =
     record {
-      at-end = λ q. ap (λ (x : List ℕ). h .written ++ x) (again t (h .job) [] (h .bytes) [] q) ∙ sym (all-acts t l start []) ∙ ap (λ (x : List ℕ). printed t job [] x) (append-nil (text-of l));
-      at-refusal = λ n rest.
-          ap (λ (x : List ℕ). h .written ++ x) (last-ended (h .job) (h .bytes) [] n ∙ sym (printed-ended t (h .job) [] (h .bytes ++ rest) n)) ∙ sym (all-acts t l start rest);
+      at-end = λ q. ap (λ (x : List ℕ). h .written ++ x) (again t (h .job) [] (h .bytes) [] q) ∙ f [] ∙ rw (append-nil text);
+      at-refusal = λ n rest. ap (λ (x : List ℕ). h .written ++ x) (last-ended (h .job) (h .bytes) [] n ∙ sym (printed-ended t (h .job) [] (h .bytes ++ rest) n)) ∙ f rest;
     }
+
+pub whole : (t : List ℤ) (l : List Act) (job : Job) → Whole t job (text-of l) (acts t l (record { job = job; bytes = []; written = [] }))
+whole t l job = whole-of t job (text-of l) _ (λ rest. sym (all-acts t l (record { job = job; bytes = []; written = [] }) rest))
 
 -- ---- the tables: in blocks of the right lengths, `begin` answers by the check of the file and leaves its words and the fresh state
 
@@ -292,27 +296,30 @@ begun-is file t₀ b₀ {code} {t} {b} ht hb e = by (eqb (length file) 3760) (eq
         (sym hc, λ z. absurd (omega arith))
 
 -- what is written and the last form are `output` of the table file and the text
-pub record Program (file : List ℕ) (code : ℕ) (l : List Act) (h : Held) : Type 0 where
+pub record Program (file : List ℕ) (code : ℕ) (text : List ℕ) (h : Held) : Type 0 where
   -- where the tables are refused, whatever the text is
-  pub no-tables : (code ≡ 0 → ⊥) → (text : List ℕ) → refused code 0 ≡ output file text
+  pub no-tables : (code ≡ 0 → ⊥) → (any : List ℕ) → refused code 0 ≡ output file any
   -- where the text has ended, and no whole line is held
-  pub at-end : code ≡ 0 → to-feed (h .bytes) ≡ length (h .bytes) → h .written ++ last-of (h .job) (h .bytes) ≡ output file (text-of l)
+  pub at-end : code ≡ 0 → to-feed (h .bytes) ≡ length (h .bytes) → h .written ++ last-of (h .job) (h .bytes) ≡ output file text
   -- where a line was refused, whatever follows
-  pub at-refusal : code ≡ 0 → (h .job .progress .code ≡ 0 → ⊥) → (rest : List ℕ) → h .written ++ last-of (h .job) (h .bytes) ≡ output file (text-of l ++ rest)
+  pub at-refusal : code ≡ 0 → (h .job .progress .code ≡ 0 → ⊥) → (rest : List ℕ) → h .written ++ last-of (h .job) (h .bytes) ≡ output file (text ++ rest)
 
 -- code, t and b are what `call::begin` answers and leaves in blocks of the right lengths
-pub program : (file : List ℕ) (t₀ b₀ : List ℤ) {code : ℕ} {t b : List ℤ} (l : List Act) → length t₀ ≡ 1880 → length b₀ ≡ 234 → begun code t b ≡ begin file t₀ b₀
-    → Program file code l (acts t l (record { job = kept b start; bytes = []; written = [] }))
-unfolding output
-program file t₀ b₀ {code} {t} {b} l ht hb e =
-    record {
-      no-tables = λ n text. rw (f .0, ne-eqb code 0 n);
-      at-end = λ z q. whole t l (kept b start) .at-end q ∙ same z (text-of l);
-      at-refusal = λ z n rest. whole t l (kept b start) .at-refusal n rest ∙ same z (text-of l ++ rest);
-    }
-  where
-    f : (file-check file ≡ code) × (code ≡ 0 → (t ≡ words file) × (kept b start ≡ fresh-job (words file)))
-    f = begun-is file t₀ b₀ ht hb e
+module _ (file : List ℕ) (t₀ b₀ : List ℤ) {code : ℕ} {t b : List ℤ} (ht : length t₀ ≡ 1880) (hb : length b₀ ≡ 234) (e : begun code t b ≡ begin file t₀ b₀) where
+  pub program-of : (text : List ℕ) (h : Held) → Whole t (kept b start) text h → Program file code text h
+  unfolding output
+  program-of text h w =
+      record {
+        no-tables = λ n any. rw (f .0, ne-eqb code 0 n);
+        at-end = λ z q. w .at-end q ∙ same z text;
+        at-refusal = λ z n rest. w .at-refusal n rest ∙ same z (text ++ rest);
+      }
+    where
+      f : (file-check file ≡ code) × (code ≡ 0 → (t ≡ words file) × (kept b start ≡ fresh-job (words file)))
+      f = begun-is file t₀ b₀ ht hb e
 
-    same : code ≡ 0 → (x : List ℕ) → printed t (kept b start) [] x ≡ output file x
-    same z x = rw (f .0, eq-eqb code 0 z, f .1 z .0, f .1 z .1)
+      same : code ≡ 0 → (x : List ℕ) → printed t (kept b start) [] x ≡ output file x
+      same z x = rw (f .0, eq-eqb code 0 z, f .1 z .0, f .1 z .1)
+
+  pub program : (l : List Act) → Program file code (text-of l) (acts t l (record { job = kept b start; bytes = []; written = [] }))
+  program l = program-of (text-of l) _ (whole t l (kept b start))

@@ -9,32 +9,22 @@ use native.Mathlib.Nat.{add-zero}
 use borrow.Author.Tests.{eqb-true, eqb-false}
 use lib.Dec.{eqb}
 use lib.IntN.{ℤ}
-use lib.ListN.{length, replicate, length-append}
+use lib.ListN.{length, length-append}
 use Rattle.count.specs.Count as Count
 use Rattle.count.specs.Laws.{fits-more, frames-more}
 use Rattle.line.specs.Line.{shortest, longest}
-use Rattle.line.specs.Laws as Line
 use Rattle.print.specs.Print.{frame-least, frame-room}
 use Rattle.line_step.specs.declared.Progress.{Progress}
-use Rattle.line_step.specs.Step.{Job, Step, with-code, stop, line-step}
-use Rattle.line_step.specs.Laws.{by-line, sized}
+use Rattle.line_step.specs.Step.{Job, Step, with-code, line-step}
+use Rattle.line_step.specs.Laws.{sized}
 use Rattle.call.specs.Chunk.{Part, none, behind, goes-on, part}
 use Rattle.call.specs.Laws.{going}
 use Rattle.state.specs.State.{state-check}
 use Rattle.whole_call.specs.Counting.{More, counting, next-line}
 use Rattle.whole_call.specs.Codes.{line-accepted}
+use Rattle.whole_call.specs.Reads.{line-bytes}
 
 -- ---- a line
-
-abbrev Bounds : List ℕ → Type 0
-Bounds l = (shortest ≤ length l) × (length l ≤ longest)
-
-line-bytes : (t : List ℤ) (job : Job) (l : List ℕ) → line-step t job l .job .progress .code ≡ 0 → Bounds l
-unfolding stop
-line-bytes t job l =
-    by-line (λ (s : Step). s .job .progress .code ≡ 0 → Bounds l) t job l
-    (λ n bytes e z. absurd (omega (arith, Line.refused-some l (replicate 10 0) bytes n e)))
-    (λ kind bytes e z. Line.frame-length l (replicate 10 0) bytes kind e)
 
 -- counts that a job can have, and as many lines as frames
 abbrev pub CanBeSaved : Progress → Type 0

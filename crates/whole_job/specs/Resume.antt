@@ -38,13 +38,14 @@ use Rattle.job.specs.Part.{progress, going, after, taken, part}
 use Rattle.job.specs.Part as Part
 use Rattle.whole_job.specs.Back.{InBounds, small, pack-read, pack-other}
 use Rattle.whole_job.specs.Fits.{CanBeSaved, AfterPart, Fits, part-able, part-fits, part-accepted, part-unused}
+use Rattle.whole_job.specs.Shown.{Shown, shown-part}
 
 -- a file after bytes were written over its bytes from place o on
 unfoldable pub put-at : ℕ → List ℕ → List ℕ → List ℕ
 put-at o v out = take o out ++ (v ++ drop (o + length v) out)
 
 -- what was printed of the lines that are taken stands in the output, and with what the rest of the text prints from this state it is all that is to be printed; the tables are those
--- of this table file, and the job has their CRC-32 and that of the bytes taken; a job file can hold its numbers, and its state is accepted
+-- of this table file, and the job has their CRC-32 and that of the bytes taken; a job file can hold its numbers, and its state is accepted; what was printed ends in its last samples
 pub record Good (file text all : List ℕ) (b : List ℤ) (p : Saved) (out : List ℕ) : Type 0 where
   pub of-tables : p .tables ≡ crc32 file
   pub of-call : p .call ≡ crc32 (take (p .at) text)
@@ -53,10 +54,11 @@ pub record Good (file text all : List ℕ) (b : List ℤ) (p : Saved) (out : Lis
   pub accepted : state-check b ≡ 0
   pub reach : p .written ≤ length out
   pub made : all ≡ take (p .written) out ++ printed (words file) (going b p) [] (drop (p .at) text)
+  pub shown : Shown b (take (p .written) out)
 
 -- a new job, whatever stands in the output: all that is to be printed is what `decode` prints
 pub good-fresh : (file text out : List ℕ) → file-check file ≡ 0 → Good file text (output file text) (fresh-job (words file) .block) (start (crc32 file)) out
-unfolding going progress fresh-job Call.start start output fits crc32 run
+unfolding going progress fresh-job Call.start start output fits crc32 run Shown
 good-fresh file text out h =
     record {
       of-tables = refl;
@@ -66,6 +68,7 @@ good-fresh file text out h =
       accepted = fresh-checked file h;
       reach = omega arith;
       made = rw (eq-eqb _ _ h);
+      shown = λ z. absurd (omega arith);
     }
 
 -- whatever is written behind the place, as by a program that was stopped before it saved its next state
@@ -80,6 +83,7 @@ good-behind file text all b p out out′ good h e =
       accepted = good .accepted;
       reach = h;
       made = good .made ∙ rw e;
+      shown = rw e (good .shown);
     }
 
 -- a job that goes through a state file: with the same tables it is the job that was saved, with tables of another CRC-32 it is refused
@@ -224,6 +228,7 @@ module _ (file text all : List ℕ) (b : List ℤ) (p : Saved) (out : List ℕ) 
             ∙ ap (λ (x : List ℕ). take (p .written) out ++ x) (from-here ∙ ap (λ (j : Step.Job). Q .text ++ printed t j [] (drop (p .at + used) text)) (same-job c))
             ∙ sym (append-assoc (take (p .written) out) (Q .text) _)
             ∙ ap (λ (x : List ℕ). x ++ printed t (going (Q .job .block) next) [] (drop (p .at + used) text)) (sym front);
+        shown = rw front (shown-part t (going b p) most (length forms) [] input (take (p .written) out) (good .shown));
       }
 
   stopped : (Q .job .progress .code ≡ 0 → ⊥)

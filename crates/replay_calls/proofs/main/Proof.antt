@@ -6,14 +6,14 @@ use Rattle.replay_calls.proofs.main.Statement.{statement}
 use Rattle.replay_calls.proofs.main.Tie as tie
 
 abbrev Inv-loop : tie.InvT-loop
-Inv-loop t b₀ text₀ out₀ most₀ b text out most = (length t ≡ 1880) × ((length b ≡ 234) × ((length text ≡ length text₀) × (length out ≡ length out₀)))
+Inv-loop t b₀ text₀ most₀ b text most = (length t ≡ 1880) × ((length b ≡ 234) × (length text ≡ length text₀))
 
 abbrev μ-loop : tie.MeasureT-loop
-μ-loop t b₀ text₀ out₀ most₀ b text out most = most
+μ-loop t b₀ text₀ most₀ b text most = most
 
 pub main-spec : {M : Type 1} → statement M
 main-spec =
     tie.close
     (tie.spec Inv-loop μ-loop (λ c. search needs) (λ c κs. search needs) (λ c. search needs) (λ c. search needs) (λ c. search needs)
-    (λ c κs. search needs) (λ c κs. search needs) (λ c κs. search needs) (λ c. search needs) (λ c. search needs) (λ c. search needs)
-    (λ c. search needs) (λ c. search needs) (λ c κs. search needs) (λ c κs. search needs) (λ c. search needs) (λ c. search needs) (λ c. search needs))
+    (λ c κs. search needs) (λ c κs. search needs) (λ c. search needs) (λ c. search needs) (λ c. search needs)
+    (λ c. search needs) (λ c κs. search needs) (λ c κs. search needs) (λ c. search needs) (λ c. search needs) (λ c. search needs))

@@ -3,18 +3,18 @@ use mathlib.Core.Path.{_≡_}
 use Prim.Native.Nat.{_≤_}
 use lib.ListN.{length}
 use borrow.Author.Needs.{needs}
+use Rattle.read_step.specs.Reading.{input-room}
 use Rattle.replay_calls.proofs.replay.Statement.{statement}
 use Rattle.replay_calls.proofs.replay.Tie as tie
 
 abbrev Inv-loop : tie.InvT-loop
-Inv-loop t b₀ text size out₀ input₀ p₀ most₀ b out input p most =
-    (length b ≡ length b₀) × ((length input ≡ length input₀) × ((length out ≡ length out₀) × ((p .from ≤ p .to) × (p .to ≤ length input))))
+Inv-loop t b₀ text size input₀ out₀ p₀ most₀ b input out p most = (length b ≡ length b₀) × ((p .call .held ≤ input-room) × (p .at ≤ length text))
 
 abbrev μ-loop : tie.MeasureT-loop
-μ-loop t b₀ text size out₀ input₀ p₀ most₀ b out input p most = most
+μ-loop t b₀ text size input₀ out₀ p₀ most₀ b input out p most = most
 
 pub replay-spec : {M : Type 1} → statement M
 replay-spec =
     tie.close
-    (tie.spec Inv-loop μ-loop (λ c κs. search needs) (λ c. search needs) (λ c. search needs) (λ c κs. search needs) (λ c κs. search needs)
-    (λ c. search needs) (λ c. search needs) (λ c κs. search needs) (λ c. search needs) (λ c. search needs) (λ c. search needs))
+    (tie.spec Inv-loop μ-loop (λ c. search needs) (λ c κs. search needs) (λ c κs. search needs) (λ c. search needs) (λ c. search needs)
+    (λ c κs. search needs) (λ c κs. search needs) (λ c. search needs) (λ c. search needs))

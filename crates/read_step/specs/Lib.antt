@@ -1,0 +1,3 @@
+-- The definitions that the contracts of `read_step` cite, and their laws.
+pub mod Reading
+pub mod Laws
