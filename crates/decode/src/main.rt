@@ -2,7 +2,9 @@
 // last form to standard output. What is printed is `output` of call.specs.Call. No contract can say what is read or written, so the work is done on lent memory, by
 // crate read_step; whole_call.specs.Reads has what its reads print together.
 ghost use mathlib.Core.Path.{_≡_};
+ghost use mathlib.Core.Bool.{_&&_};
 ghost use Prim.Native.Nat.{_+_, _≤_, _<_};
+ghost use lib.Dec.{eqb, ltb};
 ghost use lib.ListN.{length, take};
 ghost use Rattle.read_step.specs.Reading.{input-room};
 use libc::STDIN_FILENO;
@@ -49,6 +51,20 @@ fn read(fd: i32, name: &[u8], held: usize, input: &mut [u8]) -> Got
     Got { bytes, good }
 }
 
+// Whether a further read follows: while the reads give bytes, however few, and no line is refused.
+fn goes_on(good: bool, bytes: usize, code: u32) -> bool
+    ensures { λ r. ⌜ r ≡ good && (ltb 0 bytes && eqb code 0) ⌝ }
+{
+    good & ((0 < bytes) & (code == 0))
+}
+
+// Whether a read and what was written behind it are good.
+fn both(read: bool, written: bool) -> bool
+    ensures { λ r. ⌜ r ≡ read && written ⌝ }
+{
+    read & written
+}
+
 // One read of the call, and what its lines print. None follows the end, a refusal or a failure.
 fn turn(
     t: &[i16; 1880],
@@ -66,10 +82,10 @@ fn turn(
     let call = read_step::read_step(t, b, from, got.bytes, input, out);
     let text: &[u8] = out;
     let written = call.written;
-    let good = files::write(&text[0..written]) && got.good;
+    let good = both(got.good, files::write(&text[0..written]));
     Place {
         call,
-        more: good && 0 < got.bytes && call.job.code == 0,
+        more: goes_on(good, got.bytes, call.job.code),
         good,
     }
 }

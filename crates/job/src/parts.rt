@@ -30,7 +30,7 @@ pub struct Frames {
 // No call has as many frames.
 pub const ALL: u32 = 4294967295;
 
-// The output that a part is lent: room for 1,000 frames. The state is saved behind each part, so no more is lost where the program is stopped.
+// The output that a part is lent: room for 1,000 frames.
 pub const ROOM: usize = 1000 * print::FRAME_ROOM;
 
 // A place in a file, for `pread` and `pwrite`.
