@@ -1,0 +1,3 @@
+-- The definitions of crate job_disk.
+pub mod Disk
+pub mod Laws
