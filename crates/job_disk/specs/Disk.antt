@@ -1,4 +1,5 @@
 -- The account of a job's files, and what holds of it between two parts.
+use mathlib.Core.Bool.{true}
 use mathlib.Core.Path.{_≡_}
 use Prim.Native.Nat.{ℕ, _+_, _%_, _^_, _<_}
 use Rattle.job.specs.declared.Saved.{Saved}
@@ -17,6 +18,12 @@ pub record Synced (d r : Disk) : Type 0 where
   pub written : r .written ≡ d .written
   pub synced : r .synced ≡ d .written
   pub saved : r .saved ≡ d .saved
+
+-- what a place counts is on the disk, and nothing failed
+pub record OnDisk (p : Saved) (d : Disk) : Type 0 where
+  pub good : d .good ≡ true
+  pub synced : d .synced ≡ p .written
+  pub written : d .written ≡ p .written
 
 -- the state at a place is saved, and OUT has what it counts
 pub record Kept (p : Saved) (d : Disk) : Type 0 where

@@ -5,7 +5,7 @@ ghost use Prim.Native.Nat.{_+_};
 ghost use lib.ListN.{length};
 ghost use Rattle.job.specs.Job.{pack};
 ghost use Rattle.job.specs.Part.{position};
-ghost use Rattle.job_disk.specs.Disk.{Put, Synced, Kept};
+ghost use Rattle.job_disk.specs.Disk.{Put, Synced, Kept, OnDisk};
 use job::LENGTH;
 use job::Saved;
 use job::parts;
@@ -22,6 +22,7 @@ pub(crate) struct Disk {
 // The files of a job whose state was saved at this place.
 pub(crate) fn at(p: Saved) -> Disk
     ensures { λ r. ⌜ (r .good ≡ true) × Kept p r ⌝ }
+    ensures { λ r. ⌜ OnDisk p r ⌝ }
 {
     Disk {
         written: p.written,
@@ -44,15 +45,17 @@ fn failed(p: Saved) -> Disk
 }
 
 // Writes forms at a place of OUT: behind all that is written.
-fn write_at(out: i32, forms: &[u8], to: i64, at: u64) -> isize
-    requires { ⌜ to ≡ position at ⌝ }
+fn write_at(d: Disk, out: i32, forms: &[u8], to: i64, at: u64) -> isize
+    requires { ⌜ (to ≡ position at) × (at ≡ d .written) ⌝ }
 {
     libc::pwrite(out, forms, to)
 }
 
 // The same; false, with a message, where not all could be written.
-fn write_all(out: i32, forms: &[u8], at: u64, name: &[u8]) -> bool {
-    let answer = write_at(out, forms, parts::position(at), at);
+fn write_all(d: Disk, out: i32, forms: &[u8], at: u64, name: &[u8]) -> bool
+    requires { ⌜ at ≡ d .written ⌝ }
+{
+    let answer = write_at(d, out, forms, parts::position(at), at);
     if answer < 0 {
         os::fail(name);
         return false;
@@ -69,7 +72,7 @@ pub(crate) fn put(d: Disk, out: i32, forms: &[u8], at: u64, name: &[u8]) -> Disk
     requires { ⌜ at ≡ d .written ⌝ }
     ensures { λ r. ⌜ Put d (length (now (forms .entry))) r ⌝ }
 {
-    let good = write_all(out, forms, at, name);
+    let good = write_all(d, out, forms, at, name);
     Disk {
         written: std::num::wrapping_add_u64(at, forms.len() as u64),
         synced: d.synced,
@@ -101,8 +104,8 @@ fn sync(d: Disk, out: i32, name: &[u8]) -> Disk
 }
 
 // Cuts OUT off: behind all that is written.
-fn cut_at(out: i32, to: i64, at: u64) -> i32
-    requires { ⌜ to ≡ position at ⌝ }
+fn cut_at(d: Disk, out: i32, to: i64, at: u64) -> i32
+    requires { ⌜ (to ≡ position at) × (at ≡ d .written) ⌝ }
 {
     libc::ftruncate(out, to)
 }
@@ -111,7 +114,7 @@ fn cut_at(out: i32, to: i64, at: u64) -> i32
 pub(crate) fn cut(d: Disk, out: i32, at: u64, name: &[u8]) -> bool
     requires { ⌜ at ≡ d .written ⌝ }
 {
-    if cut_at(out, parts::position(at), at) < 0 {
+    if cut_at(d, out, parts::position(at), at) < 0 {
         os::fail(name);
         return false;
     }
@@ -149,9 +152,9 @@ fn whole(name: &[u8], bytes: &[u8]) -> bool {
     good
 }
 
-// The file takes the place of the old state: it is that of this block and place.
-fn replace(state: &[u8], file: &[u8; LENGTH], b: &[i16; 234], p: Saved) -> bool
-    requires { ⌜ now file ≡ pack (now b) p ⌝ }
+// The file takes the place of the old state: it is that of this block and place, whose forms are on the disk.
+fn replace(state: &[u8], file: &[u8; LENGTH], b: &[i16; 234], p: Saved, d: Disk) -> bool
+    requires { ⌜ (now file ≡ pack (now b) p) × OnDisk p d ⌝ }
 {
     let mut buffer = io::buffer();
     let n = job::names::aside(state, &mut buffer);
@@ -171,17 +174,25 @@ fn replace(state: &[u8], file: &[u8; LENGTH], b: &[i16; 234], p: Saved) -> bool
 }
 
 // The new state takes the place of the old one. False, with a message, where it could not be written; the old one is then as it was.
-pub fn save(state: &[u8], b: &[i16; 234], p: Saved) -> bool {
+fn save(state: &[u8], b: &[i16; 234], p: Saved, d: Disk) -> bool
+    requires { ⌜ OnDisk p d ⌝ }
+{
     let file = job::pack(b, p);
-    replace(state, &file, b, p)
+    replace(state, &file, b, p, d)
+}
+
+// Saves the state of a new job with tables of this CRC-32, before anything is written to OUT. False, with a message, where it could not be written.
+pub fn begin(state: &[u8], b: &[i16; 234], tables: u32) -> bool {
+    let p = job::start(tables);
+    save(state, b, p, at(p))
 }
 
 // Saves the state at a place whose forms are on the disk.
 fn save_synced(state: &[u8], b: &[i16; 234], p: Saved, d: Disk) -> Disk
-    requires { ⌜ (d .good ≡ true) × ((d .synced ≡ p .written) × (d .written ≡ p .written)) ⌝ }
+    requires { ⌜ OnDisk p d ⌝ }
     ensures { λ r. ⌜ Kept p r ⌝ }
 {
-    let good = save(state, b, p);
+    let good = save(state, b, p, d);
     Disk {
         written: d.written,
         synced: d.synced,

@@ -10,7 +10,7 @@ ghost use Rattle.print.specs.Print.{form-room};
 ghost use Rattle.job.specs.Part.{position};
 ghost use Rattle.job_disk.specs.Disk.{Kept, Between};
 use disk::Disk;
-pub use disk::save;
+pub use disk::begin;
 pub use disk::sync_folder;
 use job::Saved;
 use job::parts;
