@@ -1,0 +1,95 @@
+# What the tests of the programs share: made-up calls, the two programs, a folder to work in, and the counts of what holds. No trained table value: the tables are the made-up ones of examples.
+import atexit, os, random, shutil, stat, subprocess, sys, tempfile
+
+ROOT = os.path.dirname(os.path.dirname(os.path.abspath(__file__)))
+RESUME = os.path.abspath(os.environ.get("RESUME", os.path.join(ROOT, "target/bin/resume")))
+DECODE = os.path.abspath(os.environ.get("DECODE", os.path.join(ROOT, "target/bin/decode")))
+TABLES = os.path.join(ROOT, "examples/tables.g729")
+VERSION = b"holdamek 0.2.0\n"
+
+
+def a_line(r):
+    kind = r.choices(["voice", "sid", "quiet", "lost"], [80, 5, 5, 10])[0]
+    digits = {"voice": 20, "sid": 4}.get(kind, 0)
+    if digits == 0:
+        return "(frame (%s))\n" % kind
+    return "(frame (%s %0*x))\n" % (kind, digits, r.getrandbits(4 * digits))
+
+
+def a_call(seed, frames):
+    r = random.Random(seed)
+    return "".join(a_line(r) for _ in range(frames)).encode()
+
+
+# A new folder with the tables in it, which the programs read in their working folder. It goes when the test ends.
+def folder():
+    d = tempfile.mkdtemp(prefix="holdamek-")
+    atexit.register(shutil.rmtree, d, ignore_errors=True)
+    shutil.copyfile(TABLES, os.path.join(d, "tables.g729"))
+    return d
+
+
+def get(path):
+    with open(path, "rb") as f:
+        return f.read()
+
+
+def put(path, data):
+    with open(path, "wb") as f:
+        f.write(data)
+
+
+# What the whole call prints.
+def whole(d, text):
+    return subprocess.run([DECODE], input=text, cwd=d, stdout=subprocess.PIPE, check=True).stdout
+
+
+# A run of a program in folder d: its exit status, standard output and standard error. A program that waits for a pipe is ended, with status None.
+def run(d, program, *words, stdin=b"", timeout=60):
+    try:
+        return subprocess.run([program] + list(words), cwd=d, input=stdin, stdout=subprocess.PIPE, stderr=subprocess.PIPE, timeout=timeout)
+    except subprocess.TimeoutExpired as e:
+        return subprocess.CompletedProcess(e.cmd, None, e.stdout or b"", e.stderr or b"")
+
+
+def resume(d, *words):
+    return run(d, RESUME, *words, timeout=600)
+
+
+# Everything in a folder, by name: the kind of file, which file it is, when it was last written or changed, and its bytes.
+def contents(d):
+    found = {}
+    for at, folders, files in os.walk(d):
+        for name in folders + files:
+            path = os.path.join(at, name)
+            s = os.lstat(path)
+            data = get(path) if stat.S_ISREG(s.st_mode) else os.readlink(path) if stat.S_ISLNK(s.st_mode) else None
+            found[os.path.relpath(path, d)] = (s.st_mode, s.st_ino, s.st_nlink, s.st_mtime_ns, data)
+    return found
+
+
+def refusal(code):
+    return b"(refused (code %d) (line 0))\n" % code
+
+
+# Ends the test where something doesn't hold.
+def expect(holds, what):
+    if not holds:
+        print("FAILED: " + what)
+        sys.exit(1)
+
+
+counts = {True: 0, False: 0}
+
+
+# Counts what holds, and says what doesn't, with what was seen.
+def check(holds, what, seen=None):
+    counts[bool(holds)] += 1
+    if not holds:
+        print("failed: %s%s" % (what, "" if seen is None else ": %.300r" % (seen,)))
+
+
+# The last line of a test that counts.
+def finish():
+    print("%d passed, %d failed" % (counts[True], counts[False]))
+    sys.exit(0 if counts[False] == 0 else 1)
