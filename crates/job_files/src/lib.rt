@@ -78,10 +78,8 @@ fn go_on(
     if !output::is_out(t, b, place, fd, call, out, o) {
         return;
     }
-    if s.fresh {
-        if !job_disk::begin(state, b, tables) {
-            return;
-        }
+    if s.fresh && !job_disk::begin(state, b, tables) {
+        return;
     }
     run(t, b, place, a, most, fd, state, out, o.there);
 }
