@@ -1,0 +1,3 @@
+-- How far two decoders agree from here on, which the contracts of `agree` cite, and laws of it.
+pub mod Agree
+pub mod Laws
