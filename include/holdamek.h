@@ -1,4 +1,5 @@
-/* Holdamek: the six operations of a G.729 voice path, and the writing of a line, as C functions (x86-64 Linux; C99 or later, C++).
+/* Holdamek: the six operations of a G.729 voice path, the writing of a line and the agreement of two decoders, as C functions (x86-64 Linux;
+ * C99 or later, C++).
  * `rt staticlib holdamek` makes target/staticlib/libholdamek.a:  cc -Iinclude program.c target/staticlib/libholdamek.a
  * Installed (`make install`):  cc program.c $(pkg-config --cflags --libs holdamek)
  *
@@ -11,7 +12,8 @@
  * another length is due, and is right for the payload of HOLDAMEK_NO_TRANSMISSION and HOLDAMEK_ERASED.
  *
  * What no function can notice, and the caller sees to: a pointer with a right length isn't NULL and points to that much memory of its type;
- * `kind`, `frames`, `lost` and `length` are never NULL; and what is lent for writing overlaps nothing else that is lent in the same call. */
+ * `kind`, `frames`, `lost`, `length` and `agreement` are never NULL; and what is lent for writing overlaps nothing else that is lent in the
+ * same call. */
 #ifndef HOLDAMEK_H
 #define HOLDAMEK_H
 
@@ -19,9 +21,9 @@
 #include <stdint.h>
 
 /* The version of header and library; the shared library has the first number in its name. */
-#define HOLDAMEK_VERSION "0.2.0"
+#define HOLDAMEK_VERSION "0.3.0"
 #define HOLDAMEK_VERSION_MAJOR 0
-#define HOLDAMEK_VERSION_MINOR 2
+#define HOLDAMEK_VERSION_MINOR 3
 #define HOLDAMEK_VERSION_PATCH 0
 
 #ifdef __cplusplus
@@ -46,6 +48,14 @@ enum holdamek_kind {
     HOLDAMEK_SID = 1,
     HOLDAMEK_NO_TRANSMISSION = 2,
     HOLDAMEK_ERASED = 3
+};
+
+/* How far two decoders agree from here on, with the same tables, through every list of frames (of any kinds, losses too) that both receive. */
+enum holdamek_agreement {
+    HOLDAMEK_AGREE_NOTHING = 0,       /* nothing can be said; it is not said that they differ */
+    HOLDAMEK_AGREE_PARAMETERS = 1,    /* delays, pitch and fixed gains, line spectral frequencies and filter coefficients are equal */
+    HOLDAMEK_AGREE_PULSES = 2,        /* and the pulses (codevectors), in concealed frames too */
+    HOLDAMEK_AGREE_SAMPLES = 3        /* and the samples */
 };
 
 /* The numbers that the functions return. */
@@ -89,6 +99,10 @@ uint32_t holdamek_write_line(uint32_t kind, const uint8_t *payload, size_t paylo
 
 /* Counts a frame: adds 1 to `frames`, and for kinds 1 to 3 to `lost`. Refusals 5, 10. */
 uint32_t holdamek_count(uint32_t kind, uint32_t *frames, uint32_t *lost);
+
+/* Writes to `agreement` how far two decoders with these state blocks agree from here on, one of enum holdamek_agreement. The blocks may be the
+ * same memory. Refusals 3, 4, of either block; 4 only where both have 234 words. */
+uint32_t holdamek_agree(const int16_t *first, size_t first_length, const int16_t *second, size_t second_length, uint32_t *agreement);
 
 #ifdef __cplusplus
 }

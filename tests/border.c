@@ -16,7 +16,7 @@ static void check(int holds, const char *what)
 }
 #define CHECK(holds) check((holds) != 0, #holds)
 
-enum { DELAY_OF_TABLES = 1867, PREDICTOR = 40, DELAY = 61, MARK = 0x5aa5 };
+enum { DELAY_OF_TABLES = 1867, PREDICTOR = 40, DELAY = 61, SEED = 62, PAST = 70, MARK = 0x5aa5 };
 
 /* Lent memory with a mark behind it. */
 static int16_t tables[HOLDAMEK_TABLE_WORDS + 1], state[HOLDAMEK_STATE_WORDS + 1], samples[HOLDAMEK_FRAME_SAMPLES + 1];
@@ -257,6 +257,69 @@ static void of_count(void)
     CHECK(holdamek_count(1, &frames, &lost) == HOLDAMEK_COUNT_LIMIT && lost == 0xffffffffu);
 }
 
+static int16_t other[HOLDAMEK_STATE_WORDS + 1];
+
+static uint32_t agree(size_t a, size_t b, uint32_t *agreement)
+{
+    return holdamek_agree(state, a, other, b, agreement);
+}
+
+/* Every wrong length of either block, also where the other's words are out of range; then these. */
+static void of_agree_refusals(void)
+{
+    static const int16_t wrong[][2] = {{PREDICTOR, 2}, {PREDICTOR, -1}, {DELAY, 18}, {DELAY, 145}};
+    const size_t s = HOLDAMEK_STATE_WORDS;
+    uint32_t agreement = 77;
+    size_t n;
+
+    CHECK(holdamek_fresh_state(tables, HOLDAMEK_TABLE_WORDS, state, s) == HOLDAMEK_OK);
+    memcpy(other, state, sizeof other);
+    keep();
+    for (n = 0; n < sizeof wrong / sizeof *wrong; n++) {
+        size_t length;
+        other[wrong[n][0]] = wrong[n][1];
+        for (length = 0; length <= s + 1; length++)
+            if (length != s)
+                check(agree(length, s, &agreement) == HOLDAMEK_STATE_LENGTH && agree(s, length, &agreement) == HOLDAMEK_STATE_LENGTH &&
+                          agree(length, length, &agreement) == HOLDAMEK_STATE_LENGTH,
+                      "another length of either block is refused");
+        CHECK(agree(s, (size_t)-1, &agreement) == HOLDAMEK_STATE_LENGTH);
+        CHECK(holdamek_agree(NULL, 0, other, s, &agreement) == HOLDAMEK_STATE_LENGTH);
+        CHECK(holdamek_agree(other, s, NULL, 0, &agreement) == HOLDAMEK_STATE_LENGTH);
+        CHECK(agree(s, s, &agreement) == HOLDAMEK_STATE_VALUES);
+        CHECK(holdamek_agree(other, s, state, s, &agreement) == HOLDAMEK_STATE_VALUES);
+        CHECK(holdamek_agree(other, s, other, s, &agreement) == HOLDAMEK_STATE_VALUES);
+        CHECK(other[wrong[n][0]] == wrong[n][1]);
+        memcpy(other, state, sizeof other);
+    }
+    CHECK(holdamek_agree(NULL, 0, NULL, 0, &agreement) == HOLDAMEK_STATE_LENGTH);
+    CHECK(agreement == 77 && kept());
+}
+
+/* Each word that differs alone, and each bit of the seed. */
+static void of_agree(void)
+{
+    const size_t s = HOLDAMEK_STATE_WORDS;
+    uint32_t agreement = 77, back = 77;
+    unsigned bit;
+    size_t n;
+
+    CHECK(agree(s, s, &agreement) == HOLDAMEK_OK && agreement == HOLDAMEK_AGREE_SAMPLES);
+    CHECK(holdamek_agree(state, s, state, s, &back) == HOLDAMEK_OK && back == HOLDAMEK_AGREE_SAMPLES);
+    for (n = 0; n < s; n++) {
+        uint32_t due = n == SEED ? HOLDAMEK_AGREE_PARAMETERS : n < PAST ? HOLDAMEK_AGREE_NOTHING : HOLDAMEK_AGREE_PULSES;
+        other[n] = (int16_t)(state[n] ^ 1);
+        check(agree(s, s, &agreement) == HOLDAMEK_OK && agreement == due, "a word that differs");
+        check(holdamek_agree(other, s, state, s, &back) == HOLDAMEK_OK && back == due, "a word that differs, the other way round");
+        other[n] = state[n];
+    }
+    for (bit = 0; bit < 16; bit++) {
+        other[SEED] = (int16_t)(state[SEED] ^ (int16_t)(1u << bit));
+        CHECK(agree(s, s, &agreement) == HOLDAMEK_OK && agreement == (bit < 13 ? HOLDAMEK_AGREE_PARAMETERS : HOLDAMEK_AGREE_SAMPLES));
+    }
+    CHECK(kept() && other[HOLDAMEK_STATE_WORDS] == MARK);
+}
+
 int main(void)
 {
     size_t n;
@@ -273,6 +336,8 @@ int main(void)
     of_line();
     of_write_line();
     of_count();
+    of_agree_refusals();
+    of_agree();
     CHECK(tables[HOLDAMEK_TABLE_WORDS] == MARK);
     printf("border: %d checks, %d failed\n", checks, failed);
     return failed != 0;

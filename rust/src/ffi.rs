@@ -36,6 +36,13 @@ mod c {
             length: *mut usize,
         ) -> u32;
         pub fn holdamek_count(kind: u32, frames: *mut u32, lost: *mut u32) -> u32;
+        pub fn holdamek_agree(
+            a: *const i16,
+            a_len: usize,
+            b: *const i16,
+            b_len: usize,
+            agreement: *mut u32,
+        ) -> u32;
     }
 }
 
@@ -101,4 +108,9 @@ pub fn write_line(kind: u32, payload: &[u8], out: &mut [u8], length: &mut usize)
 pub fn count(kind: u32, frames: &mut u32, lost: &mut u32) -> u32 {
     // SAFETY: see the head of this file.
     unsafe { c::holdamek_count(kind, frames, lost) }
+}
+
+pub fn agree(a: &[i16], b: &[i16], agreement: &mut u32) -> u32 {
+    // SAFETY: see the head of this file.
+    unsafe { c::holdamek_agree(a.as_ptr(), a.len(), b.as_ptr(), b.len(), agreement) }
 }

@@ -3,6 +3,7 @@
 //! A [`TableBlock`] holds your licensed tables, checked. A [`Decoder`] takes one [`Frame`] after another and gives the 80
 //! samples of each before the postfilter. Its [`StateBlock`] can be saved between any two frames and resumed later, here or on
 //! another machine. [`Frame::parse`] reads a line of a call, [`Frame::write`] writes it, and [`Counts`] counts its frames.
+//! [`StateBlock::agreement`] tells how far two decoders agree from here on.
 //!
 //! ```
 //! use holdamek::{Decoder, Frame, TableBlock};
@@ -114,6 +115,35 @@ impl StateBlock {
         }
         bytes
     }
+
+    /// How far a decoder with this state and one with the other agree from here on.
+    ///
+    /// # Errors
+    /// [`Refusal::StateValues`], where one of the two isn't accepted.
+    pub fn agreement(&self, other: &StateBlock) -> Result<Agreement, Refusal> {
+        let mut agreement = 0;
+        Refusal::check(ffi::agree(&self.0, &other.0, &mut agreement))?;
+        Ok(match agreement {
+            1 => Agreement::Parameters,
+            2 => Agreement::Pulses,
+            3 => Agreement::Samples,
+            _ => Agreement::Nothing,
+        })
+    }
+}
+
+/// How far two decoders agree from here on, with the same tables, through every list of frames (of any kinds, losses too) that
+/// both receive. Each says what those before it say, and more.
+#[derive(Debug, Clone, Copy, PartialEq, Eq, PartialOrd, Ord, Hash)]
+pub enum Agreement {
+    /// Nothing can be said. It is not said that they differ.
+    Nothing,
+    /// Delays, pitch and fixed gains, line spectral frequencies and filter coefficients are equal.
+    Parameters,
+    /// And the pulses (codevectors), in concealed frames too.
+    Pulses,
+    /// And the samples.
+    Samples,
 }
 
 /// N words, low byte first; `None` for another number of bytes.

@@ -1,6 +1,6 @@
-//! The wrapper over the example files: samples, saving and resuming, every refusal that its types leave.
+//! The wrapper over the example files: samples, saving and resuming, the agreement of two decoders, every refusal that its types leave.
 
-use holdamek::{fields, Counts, Decoder, Frame, Refusal, StateBlock, TableBlock};
+use holdamek::{fields, Agreement, Counts, Decoder, Frame, Refusal, StateBlock, TableBlock};
 use holdamek::{LONGEST_LINE, MOST_FRAMES, STATE_WORDS, TABLE_WORDS};
 
 const TABLES: &[u8] = include_bytes!("../../examples/tables.g729");
@@ -110,6 +110,84 @@ fn states_are_checked_at_the_frame() {
         let mut decoder = Decoder::resume(&tables, state.clone());
         assert_eq!(decoder.decode(&Frame::Erased), Err(Refusal::StateValues));
         assert_eq!(decoder.state(), &state);
+    }
+}
+
+/// The answer for two states, the same both ways.
+fn agreement(a: &StateBlock, words: &[i16]) -> Result<Agreement, Refusal> {
+    let b = StateBlock::from_words(words).unwrap();
+    assert_eq!(a.agreement(&b), b.agreement(a));
+    a.agreement(&b)
+}
+
+#[test]
+fn states_tell_how_far_decoders_agree() {
+    let tables = tables();
+    let fresh = StateBlock::fresh(&tables).unwrap();
+    assert_eq!(agreement(&fresh, fresh.words()), Ok(Agreement::Samples));
+    let mut decoder = Decoder::new(&tables).unwrap();
+    decoder.decode(&call()[0]).unwrap();
+    decoder.decode(&Frame::Erased).unwrap();
+    let state = decoder.state();
+    // The fresh state gets the words of the other, part by part.
+    let mut words = *fresh.words();
+    for (part, due) in [
+        (0..0, Agreement::Nothing),
+        (0..62, Agreement::Nothing),
+        (63..70, Agreement::Parameters),
+        (62..63, Agreement::Pulses),
+        (70..224, Agreement::Pulses),
+        (224..234, Agreement::Samples),
+    ] {
+        words[part.clone()].copy_from_slice(&state.words()[part]);
+        assert_eq!(agreement(state, &words), Ok(due));
+    }
+    // A word alone.
+    for place in 0..STATE_WORDS {
+        words[place] ^= 1;
+        let due = match place {
+            62 => Agreement::Parameters,
+            70.. => Agreement::Pulses,
+            _ => Agreement::Nothing,
+        };
+        assert_eq!(agreement(state, &words), Ok(due));
+        words[place] ^= 1;
+    }
+    // The 13 low bits of the seed count.
+    words[62] ^= 1 << 13;
+    assert_eq!(agreement(state, &words), Ok(Agreement::Samples));
+    for (place, word) in [(40, 2), (40, -1), (61, 18), (61, 145)] {
+        let mut words = *state.words();
+        words[place] = word;
+        assert_eq!(agreement(state, &words), Err(Refusal::StateValues));
+    }
+}
+
+#[test]
+fn what_states_tell_holds_through_gaps() {
+    let (tables, call) = (tables(), call());
+    // What one of the decoders receives before the call; what their states tell in the end, and whether these are equal.
+    for (past, due, equal) in [
+        (vec![Frame::Erased], Agreement::Parameters, false),
+        // The 13 low bits of the seed come round, the others don't.
+        (vec![Frame::Erased; 2048], Agreement::Samples, false),
+        (vec![call[1]], Agreement::Samples, true),
+    ] {
+        let mut a = Decoder::new(&tables).unwrap();
+        let mut b = a.clone();
+        for frame in &past {
+            b.decode(frame).unwrap();
+        }
+        let mut told = a.state().agreement(b.state()).unwrap();
+        assert_eq!(told, Agreement::Nothing);
+        for frame in call.iter().chain(&call) {
+            let (x, y) = (a.decode(frame).unwrap(), b.decode(frame).unwrap());
+            assert!(told < Agreement::Samples || x == y);
+            let next = a.state().agreement(b.state()).unwrap();
+            assert!(told <= next);
+            told = next;
+        }
+        assert_eq!((told, a.state() == b.state()), (due, equal));
     }
 }
 

@@ -3,6 +3,8 @@
 use Prim.Native.Nat.{ℕ}
 use mathlib.Core.List.{List}
 use lib.IntN.{ℤ}
+use Rattle.agree.specs.declared.Agreed.{Agreed}
+use Rattle.agree.specs.declared.Agreed.the-variants as agreed
 use Rattle.decoder.specs.Call as Frame
 use Rattle.count.specs.declared.Counts.{Counts}
 use Rattle.count.specs.declared.Counted.{Counted}
@@ -48,3 +50,16 @@ lend-count before (counted.Done c) = counting 0 c
 
 unfoldable pub count-call : ℕ → Counts → Counting
 count-call kind c = lend-count c (count kind c)
+
+-- ---- the agreement of two decoders: its number, and how far it goes
+
+pub data Agreeing : Type 0 where
+  agreeing : ℕ → ℕ → Agreeing
+
+-- of the answer as it was
+unfoldable pub lend-agree : ℕ → Agreed → Agreeing
+lend-agree before (agreed.Refused n) = agreeing n before
+lend-agree before agreed.Nothing = agreeing 0 0
+lend-agree before agreed.Parameters = agreeing 0 1
+lend-agree before agreed.Pulses = agreeing 0 2
+lend-agree before agreed.Samples = agreeing 0 3

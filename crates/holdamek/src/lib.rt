@@ -1,14 +1,15 @@
-// The operations of 01 for other languages, and the writing of a line: C functions over pointers and lengths, each the proved function of its crate.
+// The operations of 01 for other languages, the writing of a line and the agreement of two decoders: C functions over pointers and lengths, each the proved function of its crate.
 // A slice is a pointer and then a length in elements. Each returns 0 or the number of its refusal, which leaves all lent memory as it
 // was; what it answers beside its number goes to lent memory. include/holdamek.h says the same for C.
 ghost use mathlib.Core.Path.{_≡_};
 ghost use Rattle.tables.specs.Layout.{table-check};
 ghost use Rattle.bitstream.specs.Fields as fields;
 ghost use Rattle.state.specs.State as state;
+ghost use Rattle.agree.specs.Agree.{agree};
 ghost use Rattle.decoder.specs.Call.{frame};
 ghost use Rattle.line.specs.Line.{line};
 ghost use Rattle.line.specs.Write.{write};
-ghost use Rattle.holdamek.specs.Lent.{framed, lend-frame, lent, lend-line, lend-write, counting, count-call};
+ghost use Rattle.holdamek.specs.Lent.{framed, lend-frame, lent, lend-line, lend-write, counting, count-call, agreeing, lend-agree};
 
 #[no_mangle]
 pub extern "C" fn holdamek_table_check(t: &[i16]) -> u32
@@ -96,6 +97,33 @@ pub extern "C" fn holdamek_count(kind: u32, frames: &mut u32, lost: &mut u32) ->
         count::Counted::Done(c) => {
             *frames = c.frames;
             *lost = c.lost;
+            0
+        }
+    }
+}
+
+// How far two decoders agree from here on goes to `agreement`: 0 nothing can be said, 1 parameters, 2 pulses, 3 samples.
+#[no_mangle]
+pub extern "C" fn holdamek_agree(a: &[i16], b: &[i16], agreement: &mut u32) -> u32
+    ensures { λ r. ⌜ agreeing r (now (agreement .exit)) ≡ lend-agree (now (agreement .entry)) (agree (now (a .entry)) (now (b .entry))) ⌝ }
+{
+    let answer = agree::agree(a, b);
+    match answer {
+        agree::Agreed::Refused(n) => n,
+        agree::Agreed::Nothing => {
+            *agreement = 0;
+            0
+        }
+        agree::Agreed::Parameters => {
+            *agreement = 1;
+            0
+        }
+        agree::Agreed::Pulses => {
+            *agreement = 2;
+            0
+        }
+        agree::Agreed::Samples => {
+            *agreement = 3;
             0
         }
     }
