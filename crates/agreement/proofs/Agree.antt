@@ -259,18 +259,21 @@ later k n f v w vs ws now rest = go (k - n) refl
         ap₂ _∷_ (now (omega arith)) r
     go (suc m) e = let z : k - suc n ≡ m = omega arith in rw z at rest
 
-record Rest (n : ℕ) (vs ws : List FrameValues) : Type 0 where
-  delays : Later 0 n delays vs ws
-  pitch : Later 0 n pitch-gains vs ws
-  fixed : Later 2 n fixed-gains vs ws
-  lsf : Later 4 n frequencies vs ws
-  filters : Later 5 n filters vs ws
-  samples : (m : ℕ) → 5 ≤ n + m → map signal-before (take 1 (drop m vs)) ≡ map signal-before (take 1 (drop m ws)) → map samples (drop m vs) ≡ map samples (drop m ws)
+-- all but the samples
+pub record Values (n : ℕ) (vs ws : List FrameValues) : Type 0 where
+  pub delays : Later 0 n delays vs ws
+  pub pitch : Later 0 n pitch-gains vs ws
+  pub fixed : Later 2 n fixed-gains vs ws
+  pub lsf : Later 4 n frequencies vs ws
+  pub filters : Later 5 n filters vs ws
 
-one-call : (n : ℕ) (c : Call) (k : c .kind ≡ 0) (a b : State) (vs ws : List FrameValues) → Agree n (a .params) (b .params) → (n ≡ 0 → PassesParity (values-of c a))
-    → (5 ≤ n → a .signal ≡ b .signal → map samples vs ≡ map samples ws) → Rest (suc n) vs ws → Rest n (values-of c a ∷ vs) (values-of c b ∷ ws)
-unfolding values-of
-one-call n c k a b vs ws h first loud r =
+pub no-values : (n : ℕ) → Values n [] []
+no-values n = record { delays = refl; pitch = refl; fixed = refl; lsf = refl; filters = refl }
+
+-- a voice frame in front
+pub voice-values : (n : ℕ) (c : Call) (k : c .kind ≡ 0) (a b : State) (vs ws : List FrameValues) → Agree n (a .params) (b .params) → (n ≡ 0 → PassesParity (values-of c a))
+    → Values (suc n) vs ws → Values n (values-of c a ∷ vs) (values-of c b ∷ ws)
+voice-values n c k a b vs ws h first r =
     let x = values-of c a in
     let y = values-of c b in
     record {
@@ -279,8 +282,20 @@ one-call n c k a b vs ws h first loud r =
       fixed = later 2 n fixed-gains x y vs ws (λ l. fixed-now n c k a b h first l) (r .fixed);
       lsf = later 4 n frequencies x y vs ws (λ l. lsf-now n c k a b h first l) (r .lsf);
       filters = later 5 n filters x y vs ws (λ l. filters-now n c k a b h first l) (r .filters);
-      samples = same;
     }
+
+-- the samples of frame n + m + 1 and of every later one, where the signal before it is equal
+abbrev pub Samples : ℕ → List FrameValues → List FrameValues → Type 0
+Samples n vs ws = (m : ℕ) → 5 ≤ n + m → map signal-before (take 1 (drop m vs)) ≡ map signal-before (take 1 (drop m ws)) → map samples (drop m vs) ≡ map samples (drop m ws)
+
+record Rest (n : ℕ) (vs ws : List FrameValues) : Type 0 where
+  values : Values n vs ws
+  samples : Samples n vs ws
+
+one-call : (n : ℕ) (c : Call) (k : c .kind ≡ 0) (a b : State) (vs ws : List FrameValues) → Agree n (a .params) (b .params) → (n ≡ 0 → PassesParity (values-of c a))
+    → (5 ≤ n → a .signal ≡ b .signal → map samples vs ≡ map samples ws) → Rest (suc n) vs ws → Rest n (values-of c a ∷ vs) (values-of c b ∷ ws)
+unfolding values-of
+one-call n c k a b vs ws h first loud r = record { values = voice-values n c k a b vs ws h first (r .values); samples = same }
   where
     same : (m : ℕ) → 5 ≤ n + m → map signal-before (take 1 (drop m (values-of c a ∷ vs))) ≡ map signal-before (take 1 (drop m (values-of c b ∷ ws)))
         → map samples (drop m (values-of c a ∷ vs)) ≡ map samples (drop m (values-of c b ∷ ws))
@@ -292,14 +307,14 @@ First : ℕ → List FrameValues → Type 0
 First n vs = n ≡ 0 → All PassesParity (take 1 vs)
 
 -- the first frame of a run has the signal before it
-begins : (cs : List Call) (a b : State) → a .signal ≡ b .signal → map signal-before (take 1 (run cs a)) ≡ map signal-before (take 1 (run cs b))
+pub begins : (cs : List Call) (a b : State) → a .signal ≡ b .signal → map signal-before (take 1 (run cs a)) ≡ map signal-before (take 1 (run cs b))
 unfolding run values-of
 begins [] a b e = refl
 begins (c ∷ cs) a b e = ap (λ (s : Signal). s ∷ []) e
 
 rest : (n : ℕ) (cs : List Call) (a b : State) → Voices cs → Agree n (a .params) (b .params) → First n (run cs a) → Rest n (run cs a) (run cs b)
 unfolding run First
-rest n [] a b h g first = record { delays = refl; pitch = refl; fixed = refl; lsf = refl; filters = refl; samples = λ m l e. refl }
+rest n [] a b h g first = record { values = no-values n; samples = λ m l e. refl }
 rest n (c ∷ cs) a b h g first =
     let k = h .0 in
     let p : n ≡ 0 → PassesParity (values-of c a) = λ e. first e .0 in
@@ -318,13 +333,14 @@ agreement tables cs a b k =
     let h = voices tables (taken cs) (read a) (subst (All (VoiceWith tables)) x (k .handed .voice)) in
     let first : First 0 (run (taken cs) (read a)) = λ e. subst (λ (l : List FrameValues). All PassesParity (take 1 l)) x (k .parity) in
     let r = rest 0 (taken cs) (read a) (read b) h (at-start (read a .params) (read b .params)) first in
+    let u = r .values in
     record {
       answered = answers-are cs a at-a ∙ sym (answers-are cs b at-b);
-      delays-from-1 = rw (x, y) (r .delays);
-      pitch-gains-from-1 = rw (x, y) (r .pitch);
-      fixed-gains-from-3 = rw (x, y) (r .fixed);
-      frequencies-from-5 = rw (x, y) (r .lsf);
-      filters-from-6 = rw (x, y) (r .filters);
+      delays-from-1 = rw (x, y) (u .delays);
+      pitch-gains-from-1 = rw (x, y) (u .pitch);
+      fixed-gains-from-3 = rw (x, y) (u .fixed);
+      frequencies-from-5 = rw (x, y) (u .lsf);
+      filters-from-6 = rw (x, y) (u .filters);
       samples-from-6 = rw (x, y) (λ n l e. r .samples (n - 1) (omega arith) e);
       in-range = (rw x (in-range (taken cs) (read a) h (accepted-params a at-a)), rw y (in-range (taken cs) (read b) h (accepted-params b at-b)));
     }

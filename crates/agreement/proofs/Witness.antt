@@ -40,7 +40,7 @@ call = record { tables = tables; kind = 0; payload = 0 ∷ 0 ∷ 0 ∷ 32 ∷ 0 
 unfoldable pub calls : List Call
 calls = replicate 5 call
 
-unfoldable Shown : Type 0
+unfoldable pub Shown : Type 0
 unfolding zeros tables left right call calls
 Shown = Unit {0}
 
@@ -99,17 +99,17 @@ filters-right = refl
 -- ---- they differ
 
 -- x is n
-is : ℕ → ℤ → Bool
+unfoldable pub is : ℕ → ℤ → Bool
 is n (pos m) = eqb m n
 is n (negsuc m) = false
 
 -- p of the first member
-front : {A : Type 0} → (A → Bool) → List A → Bool
+unfoldable pub front : {A : Type 0} → (A → Bool) → List A → Bool
 front p [] = false
 front p (x ∷ l) = p x
 
 -- two values of which a test tells them apart
-apart : {A : Type 0} (p : A → Bool) {x y u v : A} → x ≡ u → y ≡ v → T (p u) → p v ≡ false → x ≢ y
+pub apart : {A : Type 0} (p : A → Bool) {x y u v : A} → x ≡ u → y ≡ v → T (p u) → p v ≡ false → x ≢ y
 apart p e g t n h = subst T n (subst (λ z. T (p z)) (sym e ∙ h ∙ g) t)
 
 gains-differ : only 2 fixed-gains (run (taken calls) (read left)) ≢ only 2 fixed-gains (run (taken calls) (read right))

@@ -1,0 +1,215 @@
+-- The claims of specs/Gap.antt, whole: what six common voice frames give, that four are too few (one table block, two pasts and one list of six frames, computed), and that no smaller modulus tells the seeds.
+use Prim.Native.Nat.{ℕ, zero, suc, _+_, _*_, _%_}
+use mathlib.Core.Path.{_≡_, refl, sym, ap, _∙_, subst}
+use mathlib.Core.List.{List, [], _∷_, _++_}
+use mathlib.Core.Logic.{_≢_}
+use native.Mathlib.Nat.{add-mul-mod-self-right}
+use native.Mathlib.Omega.{arith}
+use lib.Dec.{eqb·suc-zero}
+use lib.IntN.{ℤ, pos, negsuc}
+use lib.ListN.{take, replicate}
+use Rattle.laws.specs.Lists.{at}
+use Rattle.basic_op.specs.Ops.{low16}
+use Rattle.tables.specs.Layout as layout
+use Rattle.tables.specs.Formula as formula
+use Rattle.fixed.specs.Period.{period}
+use Rattle.state.specs.State as state
+use Rattle.state.specs.State.{State, read-params, read, write, fresh}
+use Rattle.state.specs.Laws.{read-write, fresh-sized}
+use Rattle.agreement.specs.Demand.{Call, FrameValues, frames, filters, only, All, PassesParity, words, octets, Real}
+use Rattle.agreement.specs.Run.{code, taken, frame-of, values-of, run, state-after}
+use Rattle.agreement.specs.Gap.{begun, past, concealed, seed, received, Common, Kept, Met, Through, SamePulses, Gap, SeedsDiffer, GapDiffers, BesideGap}
+use Rattle.agreement.proofs.Runs.{demand-2, frames-are}
+use Rattle.agreement.proofs.Compute.{Run}
+use Rattle.agreement.proofs.Witness.{tables, call, Shown, is, front, apart}
+use Rattle.agreement.proofs.Seeds.{accepted-begun, sized-run, seed-is, seeds, seeds-stay, low-seeds}
+use Rattle.agreement.proofs.Gap.{received-run, after-five, near-pulses}
+
+-- ---- six frames are five and one
+
+five-of : {A : Type 0} (P : A → Type 0) (l : List A) → All P (take 6 l) → All P (take 5 l)
+five-of P l h = shorter 5 l h
+  where
+    shorter : (m : ℕ) (l : List _) → All P (take (suc m) l) → All P (take m l)
+    shorter zero l h = tt
+    shorter (suc m) [] h = tt
+    shorter (suc m) (x ∷ l) h = (h .0, shorter m l (h .1))
+
+six : (vs ws : List FrameValues) → Common 6 vs ws → Common 5 vs ws
+six vs ws k = record { same = k .same; voice = five-of (λ v. v .call .kind ≡ 0) vs (k .voice); parity = k .parity }
+
+module _ (t : List ℤ) (ha hb ca cb : List Call) (k : Met 6 t ha hb ca cb) where
+  met-five : Common 5 (frames ca (begun t ha)) (frames cb (begun t hb))
+  met-five = six _ _ (k .common)
+
+  through : Through (frames ca (begun t ha)) (frames cb (begun t hb))
+  through = after-five ca cb (begun t ha) (begun t hb) (accepted-begun t (k .tables) ha) (accepted-begun t (k .tables) hb) met-five
+
+  met-pulses : low16 (seed (begun t ha)) % 8192 ≡ low16 (seed (begun t hb)) % 8192 → SamePulses (frames ca (begun t ha)) (frames cb (begun t hb))
+  unfolding read read-params
+  met-pulses n = near-pulses ca cb (begun t ha) (begun t hb) (accepted-begun t (k .tables) ha) (accepted-begun t (k .tables) hb) met-five n
+
+pub gap-is : Gap
+gap-is =
+    record {
+      through = through;
+      seeds = seeds;
+      seed-is = seed-is;
+      period = period;
+      same-pulses = λ t ha hb ca cb k e. met-pulses t ha hb ca cb k (ap (λ (s : ℤ). low16 s % 8192) e);
+    }
+
+-- ---- lists of calls that all have table block t
+
+kept-run : (t : List ℤ) (cs : List Call) (s : State) → All (λ c. c .tables ≡ t) cs → Kept t (run (taken cs) s)
+unfolding taken run values-of
+kept-run t [] s h = tt
+kept-run t (c ∷ cs) s h = go (code c) refl (λ s. kept-run t cs s (h .1))
+  where
+    go : (k : ℕ) → code c ≡ k → ((s : State) → Kept t (run (taken cs) s)) → Kept t (run (taken (c ∷ cs)) s)
+    go zero e r = rw e (h .0, r (frame-of c s .state))
+    go (suc k) e r = rw (e, eqb·suc-zero) (r s)
+
+kept : (t : List ℤ) → layout.accepted-tables t → (cs : List Call) → All (λ c. c .tables ≡ t) cs → Kept t (past t cs)
+kept t h cs a = subst (Kept t) (sym (demand-2 .from-fresh t h cs)) (kept-run t cs (fresh t) a)
+
+-- ---- no smaller modulus
+
+unfoldable lost : Call
+lost = record { tables = tables; kind = 3; payload = []; room = 80 }
+
+unfoldable Lost : Type 0
+unfolding Run Shown lost
+Lost = Unit {0}
+
+accepted-here : layout.accepted-tables tables
+unfolding Lost
+accepted-here = refl
+
+lost-taken : code lost ≡ 0
+unfolding Lost
+lost-taken = refl
+
+all-lost : (n : ℕ) → taken (replicate n lost) ≡ replicate n lost
+unfolding taken
+all-lost zero = refl
+all-lost (suc n) = rw lost-taken (ap (λ (l : List Call). lost ∷ l) (all-lost n))
+
+lost-tables : (n : ℕ) → All (λ c. c .tables ≡ tables) (replicate n lost)
+unfolding lost
+lost-tables zero = tt
+lost-tables (suc n) = (refl, lost-tables n)
+
+lost-count : (n : ℕ) (s : State) → concealed (run (replicate n lost) s) ≡ n
+unfolding concealed run values-of lost
+lost-count zero s = refl
+lost-count (suc n) s = ap (λ (k : ℕ). 1 + k) (lost-count n (frame-of lost s .state)) ∙ omega arith
+
+past-count : (n : ℕ) → concealed (past tables (replicate n lost)) ≡ n
+past-count n = ap concealed (demand-2 .from-fresh tables accepted-here (replicate n lost)) ∙ ap (λ (l : List Call). concealed (run l (fresh tables))) (all-lost n) ∙ lost-count n (fresh tables)
+
+no-smaller : (m : ℕ) → m % 16384 ≢ 0 → SeedsDiffer m
+no-smaller m h =
+    record {
+      t = tables;
+      hs = replicate m lost;
+      ks = replicate 0 lost;
+      tables = accepted-here;
+      kept-a = kept tables accepted-here (replicate m lost) (lost-tables m);
+      kept-b = kept tables accepted-here (replicate 0 lost) (lost-tables 0);
+      counts = ap (λ (n : ℕ). n % m) (past-count m) ∙ whole m ∙ sym (ap (λ (n : ℕ). n % m) (past-count 0));
+      differ = λ e. h (sym (ap (λ (n : ℕ). n % 16384) (past-count m)) ∙ seeds tables accepted-here (replicate m lost) (replicate 0 lost) .0 e ∙ ap (λ (n : ℕ). n % 16384) (past-count 0));
+    }
+  where
+    whole : (m : ℕ) → m % m ≡ 0 % m
+    whole m = let e : m ≡ 0 + 1 * m = omega arith in ap (λ (n : ℕ). n % m) e ∙ add-mul-mod-self-right 0 1 m
+
+-- ---- four common voice frames are too few: the last past row of frame 4 is still of before frame 1
+
+-- one voice frame
+unfoldable hb : List Call
+hb = call ∷ []
+
+-- four voice frames, then two lost
+unfoldable cs : List Call
+cs = call ∷ call ∷ call ∷ call ∷ lost ∷ lost ∷ []
+
+unfoldable Gapped : Type 0
+unfolding Lost hb cs state.fresh state.fresh-params formula.lsp-quantizer-initial-memory formula.gain-predictor-initial-memory state-after
+Gapped = Unit {0}
+
+-- what a past leaves
+read-begun : (t : List ℤ) → layout.accepted-tables t → (hs : List Call) → read (begun t hs) ≡ state-after (taken hs) (fresh t)
+read-begun t h hs = ap read (demand-2 .block-left-from-fresh t h hs) ∙ read-write _ (sized-run (taken hs) (fresh t) (fresh-sized t))
+
+frames-begun : (hs : List Call) → frames cs (begun tables hs) ≡ run (taken cs) (state-after (taken hs) (fresh tables))
+frames-begun hs = frames-are cs (begun tables hs) (accepted-begun tables accepted-here hs) ∙ ap (run (taken cs)) (read-begun tables accepted-here hs)
+
+filters-a : only 6 filters (run (taken cs) (state-after (taken []) (fresh tables))) ≡ (
+  (pos 4096 ∷ pos 32441 ∷ negsuc 17525 ∷ negsuc 11836 ∷ pos 31827 ∷ negsuc 22533 ∷ pos 22534 ∷ pos 1011 ∷ pos 32367 ∷ pos 29797 ∷ negsuc 3765 ∷ []),
+  (pos 4096 ∷ pos 32439 ∷ negsuc 17517 ∷ negsuc 11857 ∷ pos 31821 ∷ negsuc 22554 ∷ pos 22555 ∷ pos 982 ∷ pos 32363 ∷ pos 29797 ∷ negsuc 3765 ∷ []),
+) ∷ []
+unfolding Gapped
+filters-a = refl
+
+filters-b : only 6 filters (run (taken cs) (state-after (taken hb) (fresh tables))) ≡ (
+  (pos 4096 ∷ pos 24579 ∷ negsuc 12307 ∷ pos 0 ∷ pos 0 ∷ pos 0 ∷ pos 0 ∷ pos 16419 ∷ negsuc 22502 ∷ pos 24579 ∷ pos 4096 ∷ []),
+  (pos 4096 ∷ pos 24577 ∷ negsuc 12298 ∷ pos 0 ∷ pos 0 ∷ pos 0 ∷ pos 0 ∷ pos 16401 ∷ negsuc 22515 ∷ pos 24578 ∷ pos 4096 ∷ []),
+) ∷ []
+unfolding Gapped
+filters-b = refl
+
+filters-differ : only 6 filters (run (taken cs) (state-after (taken hb) (fresh tables))) ≢ only 6 filters (run (taken cs) (state-after (taken []) (fresh tables)))
+unfolding is front
+filters-differ = apart (front (λ x. is 4096 (at (x .0) 10))) filters-b filters-a tt refl
+
+voices : All (λ v. v .call .kind ≡ 0) (take 4 (run (taken cs) (state-after (taken []) (fresh tables))))
+unfolding Gapped
+voices = (refl, (refl, (refl, (refl, tt))))
+
+passes : All PassesParity (take 1 (run (taken cs) (state-after (taken []) (fresh tables))))
+unfolding Gapped
+passes = (tt, tt)
+
+common-four : Common 4 (frames cs (begun tables [])) (frames cs (begun tables hb))
+common-four =
+    record {
+      same = ap received (frames-begun []) ∙ received-run (taken cs) _ ∙ sym (ap received (frames-begun hb) ∙ received-run (taken cs) _);
+      voice = subst (λ (l : List FrameValues). All (λ v. v .call .kind ≡ 0) (take 4 l)) (sym (frames-begun [])) voices;
+      parity = subst (λ (l : List FrameValues). All PassesParity (take 1 l)) (sym (frames-begun [])) passes;
+    }
+
+tables-a : All (λ c. c .tables ≡ tables) cs
+unfolding call lost cs
+tables-a = (refl, (refl, (refl, (refl, (refl, (refl, tt))))))
+
+tables-b : All (λ c. c .tables ≡ tables) (hb ++ cs)
+unfolding call hb
+tables-b = (refl, tables-a)
+
+real : Real tables ([] ++ (hb ++ (cs ++ cs))) (write (fresh tables)) (write (fresh tables))
+unfolding words octets Gapped state.write state.write-params state.lsp-params state.excitation-params
+real = record { tables = tt; state-a = tt; state-b = tt; payloads = (tt, (tt, (tt, (tt, (tt, (tt, (tt, (tt, (tt, (tt, (tt, (tt, (tt, tt))))))))))))) }
+
+after-four : GapDiffers 4 6 filters
+after-four =
+    record {
+      t = tables;
+      ha = [];
+      hb = hb;
+      ca = cs;
+      cb = cs;
+      real = real;
+      met = record { tables = accepted-here; kept-a = kept tables accepted-here cs tables-a; kept-b = kept tables accepted-here (hb ++ cs) tables-b; common = common-four };
+      differ = λ e. filters-differ (sym (ap (only 6 filters) (frames-begun hb)) ∙ sym e ∙ ap (only 6 filters) (frames-begun []));
+    }
+
+pub beside-gap : BesideGap
+beside-gap =
+    record {
+      after-five = λ ca cb a b ok-a ok-b k. after-five ca cb a b ok-a ok-b k;
+      after-four = after-four;
+      no-smaller = no-smaller;
+      seeds-stay = seeds-stay;
+      same-pulses-2048 = λ t ha hb ca cb k e. met-pulses t ha hb ca cb k (low-seeds t (k .tables) ha hb e);
+    }

@@ -1,0 +1,127 @@
+-- Two decoders through a gap that both meet (change request 13): they began fresh with the same tables, have unlike pasts, and then receive the same frames, six voice
+-- frames first. In the terms of specs/Demand.antt: a decoder is a state block and the calls made on it. docs/AGREEMENT.md lays this file beside the request.
+use Prim.Native.Nat.{ℕ, _+_, _*_, _%_, _≤_}
+use mathlib.Core.Path.{_≡_}
+use mathlib.Core.Bool.{cond}
+use mathlib.Core.List.{List, [], _∷_, _++_, map}
+use mathlib.Core.Logic.{_↔_, _≢_}
+use lib.Dec.{T, ltb}
+use lib.IntN.{ℤ, pos}
+use lib.ListN.{take}
+use Rattle.laws.specs.Lists.{at}
+use Rattle.tables.specs.Layout.{accepted-tables}
+use Rattle.fixed.specs.Draws.{draws, Period}
+use Rattle.state.specs.State.{write, fresh, accepted-state}
+use Rattle.agreement.specs.Demand.{Call, FrameValues, frames, delays, pitch-gains, fixed-gains, frequencies, filters, signal-before, samples, from, only, All, PassesParity, Real}
+use Rattle.agreement.specs.Run.{block-after}
+
+-- ---- a decoder from fresh
+
+-- the block that calls leave of a fresh one, and the frames among them: a refused call is no frame
+abbrev pub begun : List ℤ → List Call → List ℤ
+begun t hs = block-after hs (write (fresh t))
+
+abbrev pub past : List ℤ → List Call → List FrameValues
+past t hs = frames hs (write (fresh t))
+
+-- the number of concealed frames: kinds 1, 2 and 3
+unfoldable pub concealed : List FrameValues → ℕ
+concealed [] = 0
+concealed (v ∷ vs) = cond (ltb 0 (v .call .kind)) 1 0 + concealed vs
+
+-- the erasure seed, word 62
+abbrev pub seed : List ℤ → ℤ
+seed b = at b 62
+
+-- the pulses: the codevector of each subframe, sharpened
+abbrev pub pulses : FrameValues → List ℤ × List ℤ
+pulses v = (v .decoded .first .code, v .decoded .second .code)
+
+-- ---- the conditions
+
+-- the calls that were frames
+abbrev pub received : List FrameValues → List Call
+received vs = map (λ v. v .call) vs
+
+-- the frames are the same, though each decoder may have refused calls of its own between them; the first m are voice, the first passes parity, and what follows is of any kind
+pub record Common (m : ℕ) (vs ws : List FrameValues) : Type 0 where
+  pub same : received vs ≡ received ws
+  pub voice : All (λ v. v .call .kind ≡ 0) (take m vs)
+  pub parity : All PassesParity (take 1 vs)
+
+-- every frame has table block t
+abbrev pub Kept : List ℤ → List FrameValues → Type 0
+Kept t vs = All (λ v. v .call .tables ≡ t) vs
+
+-- two decoders that began fresh with t and kept it in every call; behind their pasts ha and hb they receive ca and cb, whose first m frames are common voice frames in a row
+pub record Met (m : ℕ) (t : List ℤ) (ha hb ca cb : List Call) : Type 0 where
+  pub tables : accepted-tables t
+  pub kept-a : Kept t (past t (ha ++ ca))
+  pub kept-b : Kept t (past t (hb ++ cb))
+  pub common : Common m (frames ca (begun t ha)) (frames cb (begun t hb))
+
+-- ---- the claims on the frames that both receive
+
+-- delays, gains and filter coefficients are equal, in concealed frames too
+pub record Through (vs ws : List FrameValues) : Type 0 where
+  pub delays-from-1 : from 1 delays vs ≡ from 1 delays ws
+  pub pitch-gains-from-1 : from 1 pitch-gains vs ≡ from 1 pitch-gains ws
+  pub fixed-gains-from-3 : from 3 fixed-gains vs ≡ from 3 fixed-gains ws
+  pub frequencies-from-5 : from 5 frequencies vs ≡ from 5 frequencies ws
+  pub filters-from-6 : from 6 filters vs ≡ from 6 filters ws
+
+-- the pulses are equal too; and the samples of every frame n from 6 on and of all later ones, where past excitation and last ten samples are equal before frame n
+pub record SamePulses (vs ws : List FrameValues) : Type 0 where
+  pub pulses-from-2 : from 2 pulses vs ≡ from 2 pulses ws
+  pub samples-from-6 : (n : ℕ) → 6 ≤ n → only n signal-before vs ≡ only n signal-before ws → from n samples vs ≡ from n samples ws
+
+-- ---- the request
+
+pub record Gap : Type 0 where
+  -- after six common voice frames delays, gains and filter coefficients agree through whatever common frames follow
+  pub through : (t : List ℤ) (ha hb ca cb : List Call) → Met 6 t ha hb ca cb → Through (frames ca (begun t ha)) (frames cb (begun t hb))
+  -- two decoders that began fresh have equal seeds exactly when the numbers of frames that they concealed agree modulo 16,384
+  pub seeds : (t : List ℤ) → accepted-tables t → (hs ks : List Call) → (seed (begun t hs) ≡ seed (begun t ks)) ↔ (concealed (past t hs) % 16384 ≡ concealed (past t ks) % 16384)
+  -- because each of these frames draws four times, no other frame draws, and the draw visits all 65,536 seeds before it returns
+  pub seed-is : (t : List ℤ) → accepted-tables t → (hs : List Call) → seed (begun t hs) ≡ draws (4 * concealed (past t hs)) (pos 21845)
+  pub period : Period
+  -- where the seeds agree, the pulses agree too
+  pub same-pulses : (t : List ℤ) (ha hb ca cb : List Call) → Met 6 t ha hb ca cb → seed (begun t ha) ≡ seed (begun t hb) → SamePulses (frames ca (begun t ha)) (frames cb (begun t hb))
+
+-- ---- beside the request
+
+-- two pasts whose numbers of concealed frames agree modulo m, but not the seeds
+pub record SeedsDiffer (m : ℕ) : Type 0 where
+  pub t : List ℤ
+  pub hs : List Call
+  pub ks : List Call
+  pub tables : accepted-tables t
+  pub kept-a : Kept t (past t hs)
+  pub kept-b : Kept t (past t ks)
+  pub counts : concealed (past t hs) % m ≡ concealed (past t ks) % m
+  pub differ : seed (begun t hs) ≢ seed (begun t ks)
+
+-- two decoders that have met after m common voice frames only, and the values f of their frame n, which differ
+pub record GapDiffers {A : Type 0} (m n : ℕ) (f : FrameValues → A) : Type 0 where
+  pub t : List ℤ
+  pub ha : List Call
+  pub hb : List Call
+  pub ca : List Call
+  pub cb : List Call
+  pub real : Real t (ha ++ (hb ++ (ca ++ cb))) (write (fresh t)) (write (fresh t))
+  pub met : Met m t ha hb ca cb
+  pub differ : only n f (frames ca (begun t ha)) ≢ only n f (frames cb (begun t hb))
+
+pub record BesideGap : Type 0 where
+  -- five common voice frames give all that six give, from every two accepted states, whatever they hold, and with any tables
+  pub after-five : (ca cb : List Call) (a b : List ℤ) → T (accepted-state a) → T (accepted-state b) → Common 5 (frames ca a) (frames cb b) → Through (frames ca a) (frames cb b)
+  -- four don't: the filters of a concealed frame 6 still differ
+  pub after-four : GapDiffers 4 6 filters
+  -- no modulus gives equal seeds but the multiples of 16,384: 8,192 doesn't
+  pub no-smaller : (m : ℕ) → m % 16384 ≢ 0 → SeedsDiffer m
+  -- common frames make no seeds equal, and none unequal
+  pub seeds-stay : (t : List ℤ) (ha hb ca cb : List Call) → accepted-tables t → received (frames ca (begun t ha)) ≡ received (frames cb (begun t hb))
+      → (seed (begun t (ha ++ ca)) ≡ seed (begun t (hb ++ cb))) ↔ (seed (begun t ha) ≡ seed (begun t hb))
+  -- pulses are made of the 13 low bits of a seed alone: they agree where the numbers of concealed frames agree modulo 2,048
+  pub same-pulses-2048 : (t : List ℤ) (ha hb ca cb : List Call) → Met 6 t ha hb ca cb → concealed (past t ha) % 2048 ≡ concealed (past t hb) % 2048
+      → SamePulses (frames ca (begun t ha)) (frames cb (begun t hb))

@@ -1,0 +1,30 @@
+-- How long the draws of erased frames take to return (equation (96) of ITU-T G.729). proofs: specs/Period.antt.
+use Prim.Native.Nat.{ℕ, _%_, _^_, _≤_, _<_}
+use mathlib.Core.Path.{_≡_}
+use mathlib.Core.Bool.{Bool, _&&_}
+use mathlib.Core.Logic.{_↔_}
+use lib.Dec.{T}
+use lib.IntN.{ℤ, pos, negsuc}
+use lib.Signed.{leZ}
+use Rattle.laws.specs.Loops.{steps}
+use Rattle.basic_op.specs.Ops.{low16}
+use Rattle.fixed.specs.Fixed.{random}
+
+-- the seed after n draws
+abbrev pub draws : ℕ → ℤ → ℤ
+draws n s = steps (λ _ x. random x) n s
+
+-- a word of 16 bits
+unfoldable pub word : ℤ → Bool
+word x = leZ (negsuc 32767) x && leZ x (pos 32767)
+
+-- the draw visits all 65,536 seeds before it returns
+pub record Period : Type 0 where
+  -- from every seed every seed is drawn, in fewer than 65,536 draws
+  pub visits : (x y : ℤ) → T (word x) → T (word y) → (k : ℕ) × (k < 65536) × (draws k x ≡ y)
+  pub returns : (x : ℤ) → T (word x) → draws 65536 x ≡ x
+  -- and after no number of draws that isn't a multiple of 65,536
+  pub no-earlier : (x : ℤ) (n : ℕ) → draws n x ≡ x → n % 65536 ≡ 0
+  -- the j low bits of a seed return after 2 ^ j draws, and after no other number but its multiples: two numbers of draws from one seed give the same
+  -- j bits just where they agree modulo 2 ^ j
+  pub low-bits : (j : ℕ) → j ≤ 16 → (s : ℤ) (m n : ℕ) → (low16 (draws m s) % 2 ^ j ≡ low16 (draws n s) % 2 ^ j) ↔ (m % 2 ^ j ≡ n % 2 ^ j)
