@@ -1,11 +1,11 @@
 -- The claims of specs/Gap.antt, whole: what six common voice frames give, that four are too few (one table block, two pasts and one list of six frames, computed), and that no smaller modulus tells the seeds.
-use Prim.Native.Nat.{ℕ, zero, suc, _+_, _*_, _%_}
+use Prim.Native.Nat.{ℕ, zero, suc, _+_, _*_, _%_, _≤_}
 use mathlib.Core.Path.{_≡_, refl, sym, ap, _∙_, subst}
 use mathlib.Core.List.{List, [], _∷_, _++_}
 use mathlib.Core.Logic.{_≢_}
 use native.Mathlib.Nat.{add-mul-mod-self-right}
 use native.Mathlib.Omega.{arith}
-use lib.Dec.{eqb·suc-zero}
+use lib.Dec.{lit≤, eqb·suc-zero}
 use lib.IntN.{ℤ, pos, negsuc}
 use lib.ListN.{take, replicate}
 use Rattle.laws.specs.Lists.{at}
@@ -18,29 +18,24 @@ use Rattle.state.specs.State.{State, read-params, read, write, fresh}
 use Rattle.state.specs.Laws.{read-write, fresh-sized}
 use Rattle.agreement.specs.Demand.{Call, FrameValues, frames, filters, only, All, PassesParity, words, octets, Real}
 use Rattle.agreement.specs.Run.{code, taken, frame-of, values-of, run, state-after}
-use Rattle.agreement.specs.Gap.{begun, past, concealed, seed, received, Common, Kept, Met, Through, SamePulses, Gap, SeedsDiffer, GapDiffers, BesideGap}
+use Rattle.agreement.specs.Gap.{begun, past, one-concealed, concealed, seed, seed-period, received, Common, Kept, Met, Through, SamePulses, Gap, SeedsDiffer, GapDiffers, BesideGap}
 use Rattle.agreement.proofs.Runs.{demand-2, frames-are}
 use Rattle.agreement.proofs.Compute.{Run}
 use Rattle.agreement.proofs.Witness.{tables, call, Shown, is, front, apart}
 use Rattle.agreement.proofs.Seeds.{accepted-begun, sized-run, seed-is, seeds, seeds-stay, low-seeds}
 use Rattle.agreement.proofs.Gap.{received-run, after-five, near-pulses}
 
--- ---- six frames are five and one
+-- ---- six common voice frames, or five
 
-five-of : {A : Type 0} (P : A → Type 0) (l : List A) → All P (take 6 l) → All P (take 5 l)
-five-of P l h = shorter 5 l h
-  where
-    shorter : (m : ℕ) (l : List _) → All P (take (suc m) l) → All P (take m l)
-    shorter zero l h = tt
-    shorter (suc m) [] h = tt
-    shorter (suc m) (x ∷ l) h = (h .0, shorter m l (h .1))
+shorter : {A : Type 0} (P : A → Type 0) (m n : ℕ) (l : List A) → n ≤ m → All P (take m l) → All P (take n l)
+shorter P m zero l h a = tt
+shorter P zero (suc n) l h a = absurd (omega arith)
+shorter P (suc m) (suc n) [] h a = tt
+shorter P (suc m) (suc n) (x ∷ l) h a = (a .0, shorter P m n l (omega arith) (a .1))
 
-six : (vs ws : List FrameValues) → Common 6 vs ws → Common 5 vs ws
-six vs ws k = record { same = k .same; voice = five-of (λ v. v .call .kind ≡ 0) vs (k .voice); parity = k .parity }
-
-module _ (t : List ℤ) (ha hb ca cb : List Call) (k : Met 6 t ha hb ca cb) where
+module _ {m : ℕ} (five : 5 ≤ m) (t : List ℤ) (ha hb ca cb : List Call) (k : Met m t ha hb ca cb) where
   met-five : Common 5 (frames ca (begun t ha)) (frames cb (begun t hb))
-  met-five = six _ _ (k .common)
+  met-five = record { same = k .common .same; voice = shorter (λ v. v .call .kind ≡ 0) m 5 _ five (k .common .voice); parity = k .common .parity }
 
   through : Through (frames ca (begun t ha)) (frames cb (begun t hb))
   through = after-five ca cb (begun t ha) (begun t hb) (accepted-begun t (k .tables) ha) (accepted-begun t (k .tables) hb) met-five
@@ -52,11 +47,11 @@ module _ (t : List ℤ) (ha hb ca cb : List Call) (k : Met 6 t ha hb ca cb) wher
 pub gap-is : Gap
 gap-is =
     record {
-      through = through;
+      through = λ t ha hb ca cb k. through (lit≤ tt) t ha hb ca cb k;
       seeds = seeds;
       seed-is = seed-is;
       period = period;
-      same-pulses = λ t ha hb ca cb k e. met-pulses t ha hb ca cb k (ap (λ (s : ℤ). low16 s % 8192) e);
+      same-pulses = λ t ha hb ca cb k e. met-pulses (lit≤ tt) t ha hb ca cb k (ap (λ (s : ℤ). low16 s % 8192) e);
     }
 
 -- ---- lists of calls that all have table block t
@@ -101,14 +96,14 @@ lost-tables zero = tt
 lost-tables (suc n) = (refl, lost-tables n)
 
 lost-count : (n : ℕ) (s : State) → concealed (run (replicate n lost) s) ≡ n
-unfolding concealed run values-of lost
+unfolding concealed one-concealed run values-of lost
 lost-count zero s = refl
 lost-count (suc n) s = ap (λ (k : ℕ). 1 + k) (lost-count n (frame-of lost s .state)) ∙ omega arith
 
 past-count : (n : ℕ) → concealed (past tables (replicate n lost)) ≡ n
 past-count n = ap concealed (demand-2 .from-fresh tables accepted-here (replicate n lost)) ∙ ap (λ (l : List Call). concealed (run l (fresh tables))) (all-lost n) ∙ lost-count n (fresh tables)
 
-no-smaller : (m : ℕ) → m % 16384 ≢ 0 → SeedsDiffer m
+no-smaller : (m : ℕ) → m % seed-period ≢ 0 → SeedsDiffer m
 no-smaller m h =
     record {
       t = tables;
@@ -118,7 +113,7 @@ no-smaller m h =
       kept-a = kept tables accepted-here (replicate m lost) (lost-tables m);
       kept-b = kept tables accepted-here (replicate 0 lost) (lost-tables 0);
       counts = ap (λ (n : ℕ). n % m) (past-count m) ∙ whole m ∙ sym (ap (λ (n : ℕ). n % m) (past-count 0));
-      differ = λ e. h (sym (ap (λ (n : ℕ). n % 16384) (past-count m)) ∙ seeds tables accepted-here (replicate m lost) (replicate 0 lost) .0 e ∙ ap (λ (n : ℕ). n % 16384) (past-count 0));
+      differ = λ e. h (sym (ap (λ (n : ℕ). n % seed-period) (past-count m)) ∙ seeds tables accepted-here (replicate m lost) (replicate 0 lost) .0 e ∙ ap (λ (n : ℕ). n % seed-period) (past-count 0));
     }
   where
     whole : (m : ℕ) → m % m ≡ 0 % m
@@ -211,5 +206,5 @@ beside-gap =
       after-four = after-four;
       no-smaller = no-smaller;
       seeds-stay = seeds-stay;
-      same-pulses-2048 = λ t ha hb ca cb k e. met-pulses t ha hb ca cb k (low-seeds t (k .tables) ha hb e);
+      same-low-bits = λ t ha hb ca cb k e. met-pulses (lit≤ tt) t ha hb ca cb k (low-seeds t (k .tables) ha hb e);
     }

@@ -1,11 +1,11 @@
 -- The erasure seed of a decoder that began fresh is told by the number of frames that it concealed.
 use Prim.Native.Nat.{ℕ, zero, suc, _+_, _*_, _%_}
 use mathlib.Core.Path.{_≡_, refl, sym, ap, _∙_}
-use mathlib.Core.Bool.{cond}
+use mathlib.Core.Bool.{Bool, cond}
 use mathlib.Core.List.{List, [], _∷_, _++_}
 use mathlib.Core.Logic.{_↔_}
 use native.Mathlib.Omega.{arith}
-use lib.Dec.{T, ltb, eqb·suc-zero}
+use lib.Dec.{T, eqb·suc-zero}
 use lib.IntN.{ℤ, pos}
 use borrow.Author.Tests.{lt-ltb}
 use Rattle.laws.specs.Loops.{steps, steps-parts}
@@ -23,19 +23,28 @@ use Rattle.decoder.specs.Call.{block}
 use Rattle.accepted.specs.Lengths.{sized-after}
 use Rattle.agreement.specs.Demand.{Call, FrameValues, frames, made}
 use Rattle.agreement.specs.Run.{taken, frame-of, values-of, run, state-after, block-after}
-use Rattle.agreement.specs.Gap.{begun, past, concealed, seed, received}
+use Rattle.agreement.specs.Gap.{begun, past, one-concealed, concealed, seed, seed-period, pulse-period, received}
 use Rattle.agreement.proofs.Runs.{demand-2, accepted-after}
 
 -- ---- one frame
 
+-- kind 0 is not concealed, every other is
+kind-0 : one-concealed 0 ≡ 0
+unfolding one-concealed
+kind-0 = refl
+
+kind-above : (k : ℕ) → one-concealed (suc k) ≡ 1
+unfolding one-concealed
+kind-above k = ap (λ (b : Bool). cond b 1 0) (lt-ltb 0 (suc k) (omega arith))
+
 -- four draws in a concealed frame, none in a voice frame
-one-seed : (c : Call) (s : State) → frame-of c s .state .params .seed ≡ draws (4 * cond (ltb 0 (c .kind)) 1 0) (s .params .seed)
+one-seed : (c : Call) (s : State) → frame-of c s .state .params .seed ≡ draws (4 * one-concealed (c .kind)) (s .params .seed)
 unfolding frame-of decode decide Parts random-index steps
 one-seed c s = go (c .kind) refl
   where
-    go : (k : ℕ) → c .kind ≡ k → frame-of c s .state .params .seed ≡ draws (4 * cond (ltb 0 (c .kind)) 1 0) (s .params .seed)
-    go zero e = rw e
-    go (suc k) e = rw (e, eqb·suc-zero, lt-ltb 0 (suc k) (omega arith))
+    go : (k : ℕ) → c .kind ≡ k → frame-of c s .state .params .seed ≡ draws (4 * one-concealed (c .kind)) (s .params .seed)
+    go zero e = rw (e, kind-0)
+    go (suc k) e = rw (e, eqb·suc-zero, kind-above k)
 
 -- ---- a list of frames
 
@@ -47,7 +56,7 @@ unfolding state-after run concealed values-of steps
 run-seed [] s = refl
 run-seed (c ∷ cs) s =
     let n = concealed (run cs (frame-of c s .state)) in
-    let k : ℕ = cond (ltb 0 (c .kind)) 1 0 in
+    let k = one-concealed (c .kind) in
     run-seed cs (frame-of c s .state) ∙ ap (draws (4 * n)) (one-seed c s) ∙ parts (4 * k) (4 * n) (s .params .seed) ∙ ap (λ (m : ℕ). draws m (s .params .seed)) (sums k n)
   where
     sums : (k n : ℕ) → 4 * k + 4 * n ≡ 4 * (k + n)
@@ -91,22 +100,22 @@ seed-is t h hs = seed-left hs (write (fresh t)) (accepted-fresh t h) ∙ ap (dra
 
 -- ---- two decoders that began fresh
 
-fours : (m n : ℕ) → ((4 * m) % 65536 ≡ (4 * n) % 65536) ↔ (m % 16384 ≡ n % 16384)
-fours m n = (λ e. let f : 4 * (m % 16384) ≡ 4 * (n % 16384) = sym (four m) ∙ e ∙ four n in omega arith, λ e. four m ∙ ap (λ (k : ℕ). 4 * k) e ∙ sym (four n))
+fours : (m n : ℕ) → ((4 * m) % 65536 ≡ (4 * n) % 65536) ↔ (m % seed-period ≡ n % seed-period)
+fours m n = (λ e. let f : 4 * (m % seed-period) ≡ 4 * (n % seed-period) = sym (four m) ∙ e ∙ four n in omega arith, λ e. four m ∙ ap (λ (k : ℕ). 4 * k) e ∙ sym (four n))
   where
-    four : (m : ℕ) → (4 * m) % 65536 ≡ 4 * (m % 16384)
+    four : (m : ℕ) → (4 * m) % 65536 ≡ 4 * (m % seed-period)
     four m = omega arith
 
 fresh-word : T (word (pos 21845))
 unfolding word
 fresh-word = tt
 
-counted : (m n : ℕ) → (draws (4 * m) (pos 21845) ≡ draws (4 * n) (pos 21845)) ↔ (m % 16384 ≡ n % 16384)
+counted : (m n : ℕ) → (draws (4 * m) (pos 21845) ≡ draws (4 * n) (pos 21845)) ↔ (m % seed-period ≡ n % seed-period)
 counted m n =
     let s = same-seed (pos 21845) fresh-word (4 * m) (4 * n) in
     (λ e. fours m n .0 (s .0 e), λ e. s .1 (fours m n .1 e))
 
-pub seeds : (t : List ℤ) → accepted-tables t → (hs ks : List Call) → (seed (begun t hs) ≡ seed (begun t ks)) ↔ (concealed (past t hs) % 16384 ≡ concealed (past t ks) % 16384)
+pub seeds : (t : List ℤ) → accepted-tables t → (hs ks : List Call) → (seed (begun t hs) ≡ seed (begun t ks)) ↔ (concealed (past t hs) % seed-period ≡ concealed (past t ks) % seed-period)
 seeds t h hs ks =
     let c = counted (concealed (past t hs)) (concealed (past t ks)) in
     (λ e. c .0 (sym (seed-is t h hs) ∙ e ∙ seed-is t h ks), λ e. seed-is t h hs ∙ c .1 e ∙ sym (seed-is t h ks))
@@ -115,12 +124,12 @@ seeds t h hs ks =
 
 calls-concealed : List Call → ℕ
 calls-concealed [] = 0
-calls-concealed (c ∷ cs) = cond (ltb 0 (c .kind)) 1 0 + calls-concealed cs
+calls-concealed (c ∷ cs) = one-concealed (c .kind) + calls-concealed cs
 
 concealed-is : (vs : List FrameValues) → concealed vs ≡ calls-concealed (received vs)
 unfolding concealed calls-concealed
 concealed-is [] = refl
-concealed-is (v ∷ vs) = ap (λ (n : ℕ). cond (ltb 0 (v .call .kind)) 1 0 + n) (concealed-is vs)
+concealed-is (v ∷ vs) = ap (λ (n : ℕ). one-concealed (v .call .kind) + n) (concealed-is vs)
 
 block-parts : (hs cs : List Call) (b : List ℤ) → block-after (hs ++ cs) b ≡ block-after cs (block-after hs b)
 unfolding block-after
@@ -137,7 +146,7 @@ seed-then t h hs cs =
     sums : (m k : ℕ) → 4 * m + 4 * k ≡ 4 * (m + k)
     sums m k = omega arith
 
-both-more : (m n k : ℕ) → ((m + k) % 16384 ≡ (n + k) % 16384) ↔ (m % 16384 ≡ n % 16384)
+both-more : (m n k : ℕ) → ((m + k) % seed-period ≡ (n + k) % seed-period) ↔ (m % seed-period ≡ n % seed-period)
 both-more m n k = (λ e. omega arith, λ e. omega arith)
 
 pub seeds-stay : (t : List ℤ) (ha hb ca cb : List Call) → accepted-tables t → received (frames ca (begun t ha)) ≡ received (frames cb (begun t hb))
@@ -156,14 +165,14 @@ seeds-stay t ha hb ca cb h same =
 
 -- ---- the 13 low bits
 
-pub low-seeds : (t : List ℤ) → accepted-tables t → (hs ks : List Call) → concealed (past t hs) % 2048 ≡ concealed (past t ks) % 2048 → low16 (seed (begun t hs)) % 8192 ≡ low16 (seed (begun t ks)) % 8192
+pub low-seeds : (t : List ℤ) → accepted-tables t → (hs ks : List Call) → concealed (past t hs) % pulse-period ≡ concealed (past t ks) % pulse-period → low16 (seed (begun t hs)) % 8192 ≡ low16 (seed (begun t ks)) % 8192
 low-seeds t h hs ks e =
     let m = concealed (past t hs) in
     let n = concealed (past t ks) in
     ap (λ (s : ℤ). low16 s % 8192) (seed-is t h hs) ∙ period .low-bits 13 (omega arith) (pos 21845) (4 * m) (4 * n) .1 (fours-13 m n e) ∙ sym (ap (λ (s : ℤ). low16 s % 8192) (seed-is t h ks))
   where
-    four : (m : ℕ) → (4 * m) % 8192 ≡ 4 * (m % 2048)
+    four : (m : ℕ) → (4 * m) % 8192 ≡ 4 * (m % pulse-period)
     four m = omega arith
 
-    fours-13 : (m n : ℕ) → m % 2048 ≡ n % 2048 → (4 * m) % 8192 ≡ (4 * n) % 8192
+    fours-13 : (m n : ℕ) → m % pulse-period ≡ n % pulse-period → (4 * m) % 8192 ≡ (4 * n) % 8192
     fours-13 m n e = four m ∙ ap (λ (k : ℕ). 4 * k) e ∙ sym (four n)

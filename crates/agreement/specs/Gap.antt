@@ -24,14 +24,25 @@ begun t hs = block-after hs (write (fresh t))
 abbrev pub past : List ℤ → List Call → List FrameValues
 past t hs = frames hs (write (fresh t))
 
--- the number of concealed frames: kinds 1, 2 and 3
+-- the number of concealed frames: 1 for each of kinds 1, 2 and 3
+unfoldable pub one-concealed : ℕ → ℕ
+one-concealed kind = cond (ltb 0 kind) 1 0
+
 unfoldable pub concealed : List FrameValues → ℕ
 concealed [] = 0
-concealed (v ∷ vs) = cond (ltb 0 (v .call .kind)) 1 0 + concealed vs
+concealed (v ∷ vs) = one-concealed (v .call .kind) + concealed vs
 
 -- the erasure seed, word 62
 abbrev pub seed : List ℤ → ℤ
 seed b = at b 62
+
+-- the number of concealed frames after which the seed returns: 65,536 draws, four a frame
+abbrev pub seed-period : ℕ
+seed-period = 16384
+
+-- and after which its 13 low bits do
+abbrev pub pulse-period : ℕ
+pulse-period = 2048
 
 -- the pulses: the codevector of each subframe, sharpened
 abbrev pub pulses : FrameValues → List ℤ × List ℤ
@@ -81,7 +92,7 @@ pub record Gap : Type 0 where
   -- after six common voice frames delays, gains and filter coefficients agree through whatever common frames follow
   pub through : (t : List ℤ) (ha hb ca cb : List Call) → Met 6 t ha hb ca cb → Through (frames ca (begun t ha)) (frames cb (begun t hb))
   -- two decoders that began fresh have equal seeds exactly when the numbers of frames that they concealed agree modulo 16,384
-  pub seeds : (t : List ℤ) → accepted-tables t → (hs ks : List Call) → (seed (begun t hs) ≡ seed (begun t ks)) ↔ (concealed (past t hs) % 16384 ≡ concealed (past t ks) % 16384)
+  pub seeds : (t : List ℤ) → accepted-tables t → (hs ks : List Call) → (seed (begun t hs) ≡ seed (begun t ks)) ↔ (concealed (past t hs) % seed-period ≡ concealed (past t ks) % seed-period)
   -- because each of these frames draws four times, no other frame draws, and the draw visits all 65,536 seeds before it returns
   pub seed-is : (t : List ℤ) → accepted-tables t → (hs : List Call) → seed (begun t hs) ≡ draws (4 * concealed (past t hs)) (pos 21845)
   pub period : Period
@@ -118,10 +129,10 @@ pub record BesideGap : Type 0 where
   -- four don't: the filters of a concealed frame 6 still differ
   pub after-four : GapDiffers 4 6 filters
   -- no modulus gives equal seeds but the multiples of 16,384: 8,192 doesn't
-  pub no-smaller : (m : ℕ) → m % 16384 ≢ 0 → SeedsDiffer m
+  pub no-smaller : (m : ℕ) → m % seed-period ≢ 0 → SeedsDiffer m
   -- common frames make no seeds equal, and none unequal
   pub seeds-stay : (t : List ℤ) (ha hb ca cb : List Call) → accepted-tables t → received (frames ca (begun t ha)) ≡ received (frames cb (begun t hb))
       → (seed (begun t (ha ++ ca)) ≡ seed (begun t (hb ++ cb))) ↔ (seed (begun t ha) ≡ seed (begun t hb))
   -- pulses are made of the 13 low bits of a seed alone: they agree where the numbers of concealed frames agree modulo 2,048
-  pub same-pulses-2048 : (t : List ℤ) (ha hb ca cb : List Call) → Met 6 t ha hb ca cb → concealed (past t ha) % 2048 ≡ concealed (past t hb) % 2048
+  pub same-low-bits : (t : List ℤ) (ha hb ca cb : List Call) → Met 6 t ha hb ca cb → concealed (past t ha) % pulse-period ≡ concealed (past t hb) % pulse-period
       → SamePulses (frames ca (begun t ha)) (frames cb (begun t hb))
