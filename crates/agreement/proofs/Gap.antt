@@ -88,12 +88,12 @@ no-seed t (Voice f) p = refl
 no-seed t Concealment p = refl
 
 -- the codevectors, by what a concealed frame draws
-codes : List ℤ → (index1 sign1 index2 sign2 : ℕ) → Params → List ℤ × List ℤ
+unfoldable pub codes : List ℤ → (index1 sign1 index2 sign2 : ℕ) → Params → List ℤ × List ℤ
 codes t index1 sign1 index2 sign2 p =
     let d = pitch.concealed-delays (p .pitch .old) in
     (sharpened t (p .beta) index1 sign1 (d .first), sharpened t (gain.sharpening t (gain.conceal t (p .gain) .gp)) index2 sign2 (d .second))
 
-code-pair : Decoded → List ℤ × List ℤ
+unfoldable pub code-pair : Decoded → List ℤ × List ℤ
 code-pair d = (d .first .code, d .second .code)
 
 module _ (t : List ℤ) (p q : Params) (e : Same p q) where
@@ -203,7 +203,7 @@ gap n l (c ∷ cs) a b e =
 -- ---- up to the gap
 
 -- after five voice frames all but the seed is equal
-settled : (n : ℕ) (p q : Params) → 5 ≤ n → Agree n p q → Same p q
+pub settled : (n : ℕ) (p q : Params) → 5 ≤ n → Agree n p q → Same p q
 unfolding with-seed
 settled n p q l g =
     let r0 = g .r0 (omega arith) in

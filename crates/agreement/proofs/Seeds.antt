@@ -51,7 +51,7 @@ one-seed c s = go (c .kind) refl
 parts : (m n : ℕ) (s : ℤ) → draws n (draws m s) ≡ draws (m + n) s
 parts m n s = sym (steps-parts (λ _ x. random x) m n s)
 
-run-seed : (cs : List Call) (s : State) → state-after cs s .params .seed ≡ draws (4 * concealed (run cs s)) (s .params .seed)
+pub run-seed : (cs : List Call) (s : State) → state-after cs s .params .seed ≡ draws (4 * concealed (run cs s)) (s .params .seed)
 unfolding state-after run concealed values-of steps
 run-seed [] s = refl
 run-seed (c ∷ cs) s =

@@ -123,6 +123,17 @@ pub record GapDiffers {A : Type 0} (m n : ℕ) (f : FrameValues → A) : Type 0 
   pub met : Met m t ha hb ca cb
   pub differ : only n f (frames ca (begun t ha)) ≢ only n f (frames cb (begun t hb))
 
+-- two decoders that have met, whose numbers of concealed frames agree modulo m, and the pulses of their frame n, which differ
+pub record PulsesDiffer (m n : ℕ) : Type 0 where
+  pub t : List ℤ
+  pub ha : List Call
+  pub hb : List Call
+  pub ca : List Call
+  pub cb : List Call
+  pub met : Met 6 t ha hb ca cb
+  pub counts : concealed (past t ha) % m ≡ concealed (past t hb) % m
+  pub differ : only n pulses (frames ca (begun t ha)) ≢ only n pulses (frames cb (begun t hb))
+
 pub record BesideGap : Type 0 where
   -- five common voice frames give all that six give, from every two accepted states, whatever they hold, and with any tables
   pub after-five : (ca cb : List Call) (a b : List ℤ) → T (accepted-state a) → T (accepted-state b) → Common 5 (frames ca a) (frames cb b) → Through (frames ca a) (frames cb b)
@@ -136,3 +147,5 @@ pub record BesideGap : Type 0 where
   -- pulses are made of the 13 low bits of a seed alone: they agree where the numbers of concealed frames agree modulo 2,048
   pub same-low-bits : (t : List ℤ) (ha hb ca cb : List Call) → Met 6 t ha hb ca cb → concealed (past t ha) % pulse-period ≡ concealed (past t hb) % pulse-period
       → SamePulses (frames ca (begun t ha)) (frames cb (begun t hb))
+  -- modulo 1,024 isn't enough
+  pub pulses-1024 : PulsesDiffer 1024 7
