@@ -18,6 +18,7 @@ use Rattle.plc.specs.declared.Decision.the-variants.{Voice, Concealment}
 use Rattle.plc.specs.Kinds.{decide}
 use Rattle.state.specs.declared.Params.{Params}
 use Rattle.state.specs.State.{State, read, accepted-state}
+use Rattle.agree.specs.Laws.{SameParams}
 use Rattle.parameters.specs.declared.Decoded.{Decoded}
 use Rattle.parameters.specs.Parameters.{sharpened, parameters}
 use Rattle.parameters.specs.Parts.{Parts}
@@ -48,6 +49,26 @@ with-seed s p =
 
 pub record Same (p q : Params) : Type 0 where
   pub is : with-seed (pos 0) p ≡ with-seed (pos 0) q
+
+pub same-params : (p q : Params) → SameParams p q → Same p q
+unfolding with-seed
+same-params p q g =
+    record {
+      is = λ i.
+          record {
+            r0 = g .r0 i;
+            r1 = g .r1 i;
+            r2 = g .r2 i;
+            r3 = g .r3 i;
+            predictor = g .predictor i;
+            omega = g .omega i;
+            lsp = g .lsp i;
+            pitch = record { old = g .old i };
+            seed = pos 0;
+            gain = record { mem = g .mem i; gp = g .gp i; gc = g .gc i };
+            beta = g .beta i;
+          };
+    }
 
 -- the seeds' 13 low bits are equal
 abbrev pub Near : Params → Params → Type 0
@@ -204,36 +225,22 @@ gap n l (c ∷ cs) a b e =
 
 -- after five voice frames all but the seed is equal
 pub settled : (n : ℕ) (p q : Params) → 5 ≤ n → Agree n p q → Same p q
-unfolding with-seed
 settled n p q l g =
-    let r0 = g .r0 (omega arith) in
-    let r1 = g .r1 (omega arith) in
-    let r2 = g .r2 (omega arith) in
-    let r3 = g .r3 (omega arith) in
-    let predictor = g .predictor (omega arith) in
-    let lsf = g .omega l in
-    let lsp = g .lsp l in
-    let old = g .old (omega arith) in
-    let mem = g .mem (omega arith) in
-    let gp = g .gp (omega arith) in
-    let gc = g .gc (omega arith) in
-    let beta = g .beta (omega arith) in
-    record {
-      is = λ i.
-          record {
-            r0 = r0 i;
-            r1 = r1 i;
-            r2 = r2 i;
-            r3 = r3 i;
-            predictor = predictor i;
-            omega = lsf i;
-            lsp = lsp i;
-            pitch = record { old = old i };
-            seed = pos 0;
-            gain = record { mem = mem i; gp = gp i; gc = gc i };
-            beta = beta i;
-          };
-    }
+    same-params p q
+    (record {
+      r0 = g .r0 (omega arith);
+      r1 = g .r1 (omega arith);
+      r2 = g .r2 (omega arith);
+      r3 = g .r3 (omega arith);
+      predictor = g .predictor (omega arith);
+      omega = g .omega l;
+      lsp = g .lsp l;
+      old = g .old (omega arith);
+      mem = g .mem (omega arith);
+      gp = g .gp (omega arith);
+      gc = g .gc (omega arith);
+      beta = g .beta (omega arith);
+    })
 
 -- a voice frame leaves the seed as it was
 voice-seed : (c : Call) (s : State) → c .kind ≡ 0 → frame-of c s .state .params .seed ≡ s .params .seed

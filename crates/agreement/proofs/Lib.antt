@@ -6,5 +6,8 @@ pub mod Compute
 pub mod Witness
 pub mod Seeds
 pub mod Gap
+pub mod States
 pub mod GapWitness
+pub mod PulsesWitness
+pub mod GapClaims
 pub mod Values

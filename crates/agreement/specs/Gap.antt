@@ -12,6 +12,9 @@ use Rattle.laws.specs.Lists.{at}
 use Rattle.tables.specs.Layout.{accepted-tables}
 use Rattle.fixed.specs.Draws.{draws, Period}
 use Rattle.state.specs.State.{write, fresh, accepted-state}
+use Rattle.agree.specs.declared.Agreed.{Agreed}
+use Rattle.agree.specs.declared.Agreed.the-variants.{Refused, Nothing, Parameters, Pulses, Samples}
+use Rattle.agree.specs.Agree.{agree}
 use Rattle.agreement.specs.Demand.{Call, FrameValues, frames, delays, pitch-gains, fixed-gains, frequencies, filters, signal-before, samples, from, only, All, PassesParity, Real}
 use Rattle.agreement.specs.Run.{block-after}
 
@@ -134,6 +137,21 @@ pub record PulsesDiffer (m n : ℕ) : Type 0 where
   pub counts : concealed (past t ha) % m ≡ concealed (past t hb) % m
   pub differ : only n pulses (frames ca (begun t ha)) ≢ only n pulses (frames cb (begun t hb))
 
+-- what each answer of `agree` on two state blocks says of the frames that both then receive
+pub record SameParameters (vs ws : List FrameValues) : Type 0 where
+  pub delays-all : from 1 delays vs ≡ from 1 delays ws
+  pub pitch-gains-all : from 1 pitch-gains vs ≡ from 1 pitch-gains ws
+  pub fixed-gains-all : from 1 fixed-gains vs ≡ from 1 fixed-gains ws
+  pub frequencies-all : from 1 frequencies vs ≡ from 1 frequencies ws
+  pub filters-all : from 1 filters vs ≡ from 1 filters ws
+
+abbrev pub Foretold : Agreed → List FrameValues → List FrameValues → Type 0
+Foretold (Refused n) vs ws = Unit {0}
+Foretold Nothing vs ws = Unit {0}
+Foretold Parameters vs ws = SameParameters vs ws
+Foretold Pulses vs ws = SameParameters vs ws × (from 1 pulses vs ≡ from 1 pulses ws)
+Foretold Samples vs ws = SameParameters vs ws × (from 1 pulses vs ≡ from 1 pulses ws) × (from 1 samples vs ≡ from 1 samples ws)
+
 pub record BesideGap : Type 0 where
   -- five common voice frames give all that six give, from every two accepted states, whatever they hold, and with any tables
   pub after-five : (ca cb : List Call) (a b : List ℤ) → T (accepted-state a) → T (accepted-state b) → Common 5 (frames ca a) (frames cb b) → Through (frames ca a) (frames cb b)
@@ -149,3 +167,5 @@ pub record BesideGap : Type 0 where
       → SamePulses (frames ca (begun t ha)) (frames cb (begun t hb))
   -- modulo 1,024 isn't enough
   pub pulses-1024 : PulsesDiffer 1024 7
+  -- what `agree` answers of two state blocks holds of all frames that the decoders then receive in common, of any kinds
+  pub states-agree : (a b : List ℤ) (ca cb : List Call) → received (frames ca a) ≡ received (frames cb b) → Foretold (agree a b) (frames ca a) (frames cb b)

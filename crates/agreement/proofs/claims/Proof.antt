@@ -1,7 +1,7 @@
 -- `agreement::claims` meets its contract: each claim by its theorem.
 use Rattle.agreement.proofs.Runs.{demand-2, accepted-after, any-output}
 use Rattle.agreement.proofs.Witness.{demand-3, parity-needed}
-use Rattle.agreement.proofs.GapWitness.{gap-is, beside-gap}
+use Rattle.agreement.proofs.GapClaims.{gap-is, beside-gap}
 use Rattle.agreement.proofs.Values.{values}
 use Rattle.agreement.proofs.claims.Statement.{statement}
 use Rattle.agreement.proofs.claims.Tie as tie
