@@ -44,10 +44,6 @@ module _ (a b : List ℤ) (p n : ℕ) (e : equal-words a b p n ≡ true) where
   equal-within q zero g h = refl
   equal-within q (suc m) g h = rw (equal-within q m g (omega arith), equal-word (q + m) (omega arith) (omega arith))
 
-  -- all of them
-  pub equal-part : part a p n ≡ part b p n
-  equal-part = equal-within p n (omega arith) (omega arith)
-
 -- ---- parameters, seed and signal
 
 -- every parameter but the seed is the same

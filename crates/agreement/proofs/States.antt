@@ -1,18 +1,15 @@
 -- What `agree` answers of two state blocks holds of all frames that both decoders then receive (`states-agree` of specs/Gap.antt).
-use Prim.Native.Nat.{ℕ, zero, suc, _%_}
+use Prim.Native.Nat.{ℕ, zero, suc}
 use mathlib.Core.Path.{_≡_, refl}
 use mathlib.Core.Bool.{Bool, true, false, cond}
 use mathlib.Core.List.{List}
 use lib.Dec.{T, lit≤, eqb·suc-zero}
 use lib.IntN.{ℤ}
-use borrow.Author.Tests.{eqb-true}
-use Rattle.basic_op.specs.Ops.{low16}
-use Rattle.laws.specs.Lists.{at}
-use Rattle.state.specs.State.{read-params, read, accepted-state}
+use Rattle.state.specs.State.{read, accepted-state}
 use Rattle.agree.specs.declared.Agreed.{Agreed}
 use Rattle.agree.specs.declared.Agreed.the-variants as agreed
 use Rattle.agree.specs.Agree.{same-parameters, same-draws, same-signal, refusal, agreement, agree}
-use Rattle.agree.specs.Laws.{parameters-equal, signal-equal, agree-accepted}
+use Rattle.agree.specs.Laws.{parameters-equal, draws-equal, signal-equal, agree-accepted}
 use Rattle.agreement.specs.Demand.{Call, frames}
 use Rattle.agreement.specs.Run.{taken, run}
 use Rattle.agreement.specs.Gap.{received, SameParameters, Foretold}
@@ -52,8 +49,8 @@ module _ (a b : List ℤ) (ca cb : List Call) (same : received (frames ca a) ≡
         }
 
     near : same-draws a b ≡ true → Near (read a .params) (read b .params)
-    unfolding same-draws read read-params
-    near d = eqb-true (low16 (at a 62) % 8192) (low16 (at b 62) % 8192) d
+    unfolding read
+    near d = draws-equal a b d
 
     pulses-hold : same-draws a b ≡ true → holds agreed.Pulses
     unfolding holds

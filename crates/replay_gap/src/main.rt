@@ -155,6 +155,18 @@ fn decode(
     code
 }
 
+// What the states of both tell of this frame and of all later ones that both get: 0 nothing, 1 parameters, 2 pulses too, 3 samples too.
+fn told(a: &[i16; 234], b: &[i16; 234]) -> u32 {
+    let answer = agree::agree(a, b);
+    match answer {
+        agree::Agreed::Refused(n) => refused(n),
+        agree::Agreed::Nothing => 0,
+        agree::Agreed::Parameters => 1,
+        agree::Agreed::Pulses => 2,
+        agree::Agreed::Samples => 3,
+    }
+}
+
 // A frame for both, and what is printed of it: nothing but the refusals where one is refused.
 fn common(
     t: &[i16; 1880],
@@ -167,11 +179,12 @@ fn common(
     let payload = part::payload(line);
     let mut first = [0i16; LENGTH];
     let mut second = [0i16; LENGTH];
+    let agree = told(a, b);
     let code_a = decode(t, a, kind, payload, &mut first);
     let code_b = decode(t, b, kind, payload, &mut second);
     if code_a == 0 && code_b == 0 {
         counts[FRAMES] = one_more(counts[FRAMES]);
-        show::frame(counts[PAIRS], counts[FRAMES], kind);
+        show::frame(counts[PAIRS], counts[FRAMES], kind, agree);
         show::decoder(b"a", counts[CONCEALED_A], &first);
         show::decoder(b"b", counts[CONCEALED_B], &second);
         show::equal(&first, &second);

@@ -1,4 +1,4 @@
-// What is printed of a frame: for each decoder how many frames it had concealed, its seed before the frame, and its values, the long ones by the CRC-32 of their words'
+// What is printed of a frame: what the states of both tell before it (crate agree); for each decoder how many frames it had concealed, its seed before the frame, and its values, the long ones by the CRC-32 of their words'
 // bytes, low byte first; then what is equal in both, word by word.
 use crate::values;
 use libc::STDOUT_FILENO;
@@ -68,10 +68,11 @@ fn named(name: &[u8], a: &[i16; LENGTH], b: &[i16; LENGTH], from: usize, count: 
     }
 }
 
-pub(crate) fn frame(pair: u32, n: u32, kind: u32) {
+pub(crate) fn frame(pair: u32, n: u32, kind: u32, agree: u32) {
     number(b"pair ", pair);
     number(b" frame ", n);
     number(b" kind ", kind);
+    number(b" agree ", agree);
     text(b"\n");
 }
 
