@@ -17,7 +17,7 @@ use Rattle.agree.specs.declared.Agreed.the-variants.{Refused, Nothing, P
 
 -- ---- what is compared
 
--- words p to p + n - 1 of two blocks are equal: none of them is less in one than in the other
+-- words p to p + n - 1 of two blocks are equal: none of them is less in one than in the other (`equal-word` and `words-equal` of specs/Laws.antt: this is so just where they are equal)
 unfoldable pub equal-words : List ℤ → List ℤ → ℕ → ℕ → Bool
 equal-words a b p n = nowhere (λ k. ltZ (at a (p + k)) (at b (p + k)) || ltZ (at b (p + k)) (at a (p + k))) n
 
@@ -26,8 +26,8 @@ unfoldable pub same-parameters : List ℤ → List ℤ → Bool
 same-parameters a b = equal-words a b 0 62 && equal-words a b 63 7
 
 -- the 13 low bits of the seeds: of a draw a concealed frame uses 13 bits and 4 (G.729 clause 4.4.4), and these are made of the 13 low bits of the seed alone
-unfoldable pub same-draws : List ℤ → List ℤ → Bool
-same-draws a b = eqb (low16 (at a 62) % 2 ^ 13) (low16 (at b 62) % 2 ^ 13)
+unfoldable pub same-seed-bits : List ℤ → List ℤ → Bool
+same-seed-bits a b = eqb (low16 (at a 62) % 2 ^ 13) (low16 (at b 62) % 2 ^ 13)
 
 -- words 70 to 233: past excitation and last ten samples
 unfoldable pub same-signal : List ℤ → List ℤ → Bool
@@ -42,7 +42,7 @@ refusal a b = cond (eqb (length a) state-length && eqb (length b) state-length) 
 -- ---- the answer
 
 unfoldable pub agreement : List ℤ → List ℤ → Agreed
-agreement a b = cond (same-parameters a b) (cond (same-draws a b) (cond (same-signal a b) Samples Pulses) Parameters) Nothing
+agreement a b = cond (same-parameters a b) (cond (same-seed-bits a b) (cond (same-signal a b) Samples Pulses) Parameters) Nothing
 
 unfoldable pub agree : List ℤ → List ℤ → Agreed
 agree a b = let n = refusal a b in cond (eqb n 0) (agreement a b) (Refused n)

@@ -1,23 +1,24 @@
 -- Laws of the comparison of two state blocks: what is equal where it says so, and the refusals by those of each block. Assumes nothing.
-use mathlib.Core.Path.{_≡_, refl, sym}
+use mathlib.Core.Path.{_≡_, refl, sym, ap, _∙_}
 use mathlib.Core.Bool.{Bool, true, false, cond, _&&_, _||_, true≢false}
 use mathlib.Core.List.{List}
 use Prim.Native.Nat.{ℕ, zero, suc, _+_, _-_, _%_, _^_, _≤_, _<_}
 use native.Mathlib.Omega.{arith}
-use lib.Dec.{eqb}
-use lib.IntN.{ℤ}
+use lib.Dec.{eqb, ltb}
+use lib.IntN.{ℤ, pos, negsuc}
 use lib.ListN.{length}
 use lib.Signed.{ltZ}
+use borrow.Author.Tests.{ltb-true, ltb-false, le-ltb}
 use borrow.Author.Tests.{eqb-true}
-use Rattle.laws.specs.Lists.{at, tab}
-use Rattle.laws.specs.Loops.{nowhere-each}
+use Rattle.laws.specs.Lists.{at, tab, at-tab}
+use Rattle.laws.specs.Loops.{nowhere-each, nowhere-all}
 use Rattle.laws.specs.Ints.{most-both}
 use Rattle.block.specs.Block.{part}
 use Rattle.block.specs.Places.{past-length, tail-length, past-place, tail-place, state-length}
 use Rattle.basic_op.specs.Ops.{low16}
 use Rattle.state.specs.State.{read-params, read-signal, accepted, accepted-state, state-check}
 use Rattle.state.specs.declared.Params.{Params}
-use Rattle.agree.specs.Agree.{equal-words, same-parameters, same-draws, same-signal, refusal}
+use Rattle.agree.specs.Agree.{equal-words, same-parameters, same-seed-bits, same-signal, refusal}
 
 -- ---- equal words
 
@@ -29,13 +30,16 @@ neither-less x y = by (ltZ x y) (ltZ y x) refl refl
     by false true e f h = absurd (true≢false h)
     by false false e f h = most-both x y e f
 
+-- words p to q - 1 are equal
+abbrev pub Equal : List ℤ → List ℤ → ℕ → ℕ → Type 0
+Equal a b p q = (k : ℕ) → p ≤ k → k < q → at a k ≡ at b k
+
 module _ (a b : List ℤ) (p n : ℕ) (e : equal-words a b p n ≡ true) where
   equal-next : (k : ℕ) → k < n → at a (p + k) ≡ at b (p + k)
   unfolding equal-words
   equal-next k h = neither-less (at a (p + k)) (at b (p + k)) (nowhere-each (λ k. ltZ (at a (p + k)) (at b (p + k)) || ltZ (at b (p + k)) (at a (p + k))) n k e h)
 
-  -- one of them, by its place in the block
-  pub equal-word : (k : ℕ) → p ≤ k → k < p + n → at a k ≡ at b k
+  pub equal-word : Equal a b p (p + n)
   equal-word k g h = let j : k ≡ p + (k - p) = omega arith in rw j (equal-next (k - p) (omega arith))
 
   -- some of them
@@ -43,6 +47,35 @@ module _ (a b : List ℤ) (p n : ℕ) (e : equal-words a b p n ≡ true) where
   unfolding part tab
   equal-within q zero g h = refl
   equal-within q (suc m) g h = rw (equal-within q m g (omega arith), equal-word (q + m) (omega arith) (omega arith))
+
+-- and it says so wherever they are equal
+never-less : (x : ℤ) → ltZ x x ≡ false
+never-less (pos n) = le-ltb n n (omega arith)
+never-less (negsuc n) = le-ltb n n (omega arith)
+
+pub words-equal : (a b : List ℤ) (p n : ℕ) → Equal a b p (p + n) → equal-words a b p n ≡ true
+unfolding equal-words
+words-equal a b p n h =
+    nowhere-all _ n (λ k l.
+    let e : at a (p + k) ≡ at b (p + k) = h (p + k) (omega arith) (omega arith) in
+    rw (e, never-less (at b (p + k))))
+
+-- in parts
+joined : (a b : List ℤ) (p q r : ℕ) → Equal a b p q → Equal a b q r → Equal a b p r
+joined a b p q r x y k g h = by (ltb k q) refl
+  where
+    by : (t : Bool) → ltb k q ≡ t → at a k ≡ at b k
+    by true e = x k g (ltb-true k q e)
+    by false e = y k (ltb-false k q e) h
+
+word-equal : (a b : List ℤ) (p : ℕ) → at a p ≡ at b p → Equal a b p (suc p)
+word-equal a b p e k g h = let j : k ≡ p = omega arith in rw j e
+
+part-equal : (a b : List ℤ) (p n : ℕ) → part a p n ≡ part b p n → Equal a b p (p + n)
+unfolding part
+part-equal a b p n e k g h =
+    let j : k ≡ p + (k - p) = omega arith in
+    rw j (sym (at-tab (λ i. at a (p + i)) n (k - p) (omega arith)) ∙ ap (λ (l : List ℤ). at l (k - p)) e ∙ at-tab (λ i. at b (p + i)) n (k - p) (omega arith))
 
 -- ---- parameters, seed and signal
 
@@ -86,9 +119,27 @@ parameters-equal a b e =
     }
 
 -- the bits of the seeds that a concealed frame's pulses are made of
-pub draws-equal : (a b : List ℤ) → same-draws a b ≡ true → low16 (read-params a .seed) % 2 ^ 13 ≡ low16 (read-params b .seed) % 2 ^ 13
-unfolding same-draws read-params
-draws-equal a b e = eqb-true _ _ e
+pub equal-parameters : (a b : List ℤ) → SameParams (read-params a) (read-params b) → same-parameters a b ≡ true
+unfolding same-parameters read-params
+equal-parameters a b g = rw (words-equal a b 0 62 lsf, words-equal a b 63 7 gains)
+  where
+    lsf : Equal a b 0 62
+    lsf =
+        joined a b 0 10 62 (part-equal a b 0 10 (g .r0))
+        (joined a b 10 20 62 (part-equal a b 10 10 (g .r1))
+        (joined a b 20 30 62 (part-equal a b 20 10 (g .r2))
+        (joined a b 30 40 62 (part-equal a b 30 10 (g .r3))
+        (joined a b 40 41 62 (word-equal a b 40 (g .predictor))
+        (joined a b 41 51 62 (part-equal a b 41 10 (g .omega)) (joined a b 51 61 62 (part-equal a b 51 10 (g .lsp)) (word-equal a b 61 (g .old))))))))
+
+    gains : Equal a b 63 70
+    gains =
+        joined a b 63 67 70 (part-equal a b 63 4 (g .mem))
+        (joined a b 67 68 70 (word-equal a b 67 (g .gp)) (joined a b 68 69 70 (word-equal a b 68 (g .gc)) (word-equal a b 69 (g .beta))))
+
+pub seed-bits-equal : (a b : List ℤ) → same-seed-bits a b ≡ true → low16 (read-params a .seed) % 2 ^ 13 ≡ low16 (read-params b .seed) % 2 ^ 13
+unfolding same-seed-bits read-params
+seed-bits-equal a b e = eqb-true _ _ e
 
 pub signal-equal : (a b : List ℤ) → same-signal a b ≡ true → read-signal a ≡ read-signal b
 unfolding same-signal read-signal
@@ -109,6 +160,18 @@ agree-accepted a b e = go (eqb (length a) state-length) (eqb (length b) state-le
     go true true false q h = absurd (omega arith)
     go true false p q h = absurd (omega arith)
     go false l p q h = absurd (omega arith)
+
+pub accepted-agree : (a b : List ℤ) → accepted-state a ≡ true → accepted-state b ≡ true → refusal a b ≡ 0
+unfolding refusal accepted-state
+accepted-agree a b x y = go (eqb (length a) state-length) (eqb (length b) state-length) (accepted (read-params a)) (accepted (read-params b)) x y
+  where
+    go : (k l p q : Bool) → k && p ≡ true → l && q ≡ true → _≡_ {A = ℕ} (cond (k && l) (cond (p && q) 0 4) 3) 0
+    go true true true true x y = refl
+    go true true true false x y = absurd (true≢false (sym y))
+    go true true false q x y = absurd (true≢false (sym x))
+    go true false true q x y = absurd (true≢false (sym y))
+    go true false false q x y = absurd (true≢false (sym x))
+    go false l p q x y = absurd (true≢false (sym x))
 
 -- the refusal by the checks of both blocks
 pub refusal-checks : (a b : List ℤ) → refusal a b ≡ cond (eqb (state-check a) 3 || eqb (state-check b) 3) 3 (cond (eqb (state-check a) 4 || eqb (state-check b) 4) 4 0)

@@ -2,7 +2,7 @@
 ghost use mathlib.Core.Path.{_≡_};
 ghost use Prim.Native.Nat.{_+_, _≤_};
 ghost use Rattle.block.specs.Places.{state-length};
-ghost use Rattle.agree.specs.Agree.{equal-words, same-parameters, same-draws, same-signal, refusal, agree};
+ghost use Rattle.agree.specs.Agree.{equal-words, same-parameters, same-seed-bits, same-signal, refusal, agree};
 use basic_op::low16;
 use block::places::PAST_LENGTH;
 use block::places::PAST_PLACE;
@@ -47,8 +47,8 @@ fn same_parameters(a: &[i16], b: &[i16]) -> bool
 }
 
 // The 13 low bits of the seeds, which the pulses of every concealed frame are made of.
-fn same_draws(a: &[i16], b: &[i16]) -> bool
-    ensures { λ r. ⌜ r ≡ same-draws (now (a .entry)) (now (b .entry)) ⌝ }
+fn same_seed_bits(a: &[i16], b: &[i16]) -> bool
+    ensures { λ r. ⌜ r ≡ same-seed-bits (now (a .entry)) (now (b .entry)) ⌝ }
 {
     low16(word(a, 62)) % 8192 == low16(word(b, 62)) % 8192
 }
@@ -90,7 +90,7 @@ pub fn agree(a: &[i16], b: &[i16]) -> Agreed
     if !same_parameters(a, b) {
         return Agreed::Nothing;
     }
-    if !same_draws(a, b) {
+    if !same_seed_bits(a, b) {
         return Agreed::Parameters;
     }
     if !same_signal(a, b) {

@@ -5,7 +5,7 @@ use mathlib.Core.List.{List, [], _∷_}
 use native.Mathlib.Omega.{arith}
 use lib.Dec.{T}
 use lib.IntN.{ℤ, pos}
-use lib.ListN.{drop, take}
+use lib.ListN.{length, drop, take}
 use Rattle.basic_op.specs.Ops.{low16}
 use Rattle.bitstream.specs.Fields.{unpack}
 use Rattle.pitch.specs.declared.Delay.{Delay}
@@ -24,7 +24,7 @@ use Rattle.parameters.specs.Parameters.{sharpened, parameters}
 use Rattle.parameters.specs.Parts.{Parts}
 use Rattle.decoder.specs.Frame.{Buffers, frame-signal, decode}
 use Rattle.agreement.specs.Demand.{Call, FrameValues, frames, delays, pitch-gains, fixed-gains, frequencies, filters, samples, All, PassesParity}
-use Rattle.agreement.specs.Run.{taken, frame-of, values-of, run}
+use Rattle.agreement.specs.Run.{taken, frame-of, values-of, run, state-after}
 use Rattle.agreement.specs.Gap.{pulses, received, Common, Through, SamePulses}
 use Rattle.agreement.proofs.Runs.{frames-are}
 use Rattle.agreement.proofs.Agree.{Agree, at-start, v, w, same-codes, voiced, agree-after, Later, later, Values, no-values, voice-values, Samples, begins}
@@ -68,6 +68,25 @@ same-params p q g =
             gain = record { mem = g .mem i; gp = g .gp i; gc = g .gc i };
             beta = g .beta i;
           };
+    }
+
+pub params-same : (p q : Params) → Same p q → SameParams p q
+unfolding with-seed
+params-same p q e =
+    let x = e .is in
+    record {
+      r0 = λ i. x i .r0;
+      r1 = λ i. x i .r1;
+      r2 = λ i. x i .r2;
+      r3 = λ i. x i .r3;
+      predictor = λ i. x i .predictor;
+      omega = λ i. x i .omega;
+      lsp = λ i. x i .lsp;
+      old = λ i. x i .pitch .old;
+      mem = λ i. x i .gain .mem;
+      gp = λ i. x i .gain .gp;
+      gc = λ i. x i .gain .gc;
+      beta = λ i. x i .beta;
     }
 
 -- the seeds' 13 low bits are equal
@@ -221,6 +240,12 @@ gap n l (c ∷ cs) a b e =
       samples = λ s. gap-samples n c cs a b e s (r .samples (near-after c a b s)) l;
     }
 
+-- what is left behind it
+same-left : (cs : List Call) (a b : State) → Same (a .params) (b .params) → Same (state-after cs a .params) (state-after cs b .params)
+unfolding state-after
+same-left [] a b e = e
+same-left (c ∷ cs) a b e = same-left cs (frame-of c a .state) (frame-of c b .state) (same-after c a b e)
+
 -- ---- up to the gap
 
 -- after five voice frames all but the seed is equal
@@ -288,6 +313,18 @@ lead n (suc m) q (c ∷ cs) a b h g first =
     one-call n c (h .0) a b _ _ g p (omega arith)
     (lead (suc n) m (omega arith) cs (frame-of c a .state) (frame-of c b .state) (h .1) (agree-after n c (h .0) a b g p) (λ e. absurd (omega arith)))
 
+-- and what is left once five were voice
+lead-left : (n m : ℕ) → n + suc m ≡ 5 → (cs : List Call) (a b : State) → suc m ≤ length (run cs a) → All (λ u. u .call .kind ≡ 0) (take (suc m) (run cs a)) → Agree n (a .params) (b .params)
+    → (n ≡ 0 → All PassesParity (take 1 (run cs a))) → Same (state-after cs a .params) (state-after cs b .params)
+unfolding run values-of state-after
+lead-left n m q [] a b l h g first = absurd (omega arith)
+lead-left n zero q (c ∷ cs) a b l h g first =
+    let p : n ≡ 0 → PassesParity (values-of c a) = λ e. first e .0 in
+    same-left cs (frame-of c a .state) (frame-of c b .state) (settled (suc n) _ _ (omega arith) (agree-after n c (h .0) a b g p))
+lead-left n (suc m) q (c ∷ cs) a b l h g first =
+    let p : n ≡ 0 → PassesParity (values-of c a) = λ e. first e .0 in
+    lead-left (suc n) m (omega arith) cs (frame-of c a .state) (frame-of c b .state) (omega arith) (h .1) (agree-after n c (h .0) a b g p) (λ e. absurd (omega arith))
+
 -- ---- on blocks
 
 pub received-run : (cs : List Call) (s : State) → received (run cs s) ≡ cs
@@ -300,11 +337,11 @@ module _ (ca cb : List Call) (a b : List ℤ) (ok-a : T (accepted-state a)) (ok-
   pub run-a : frames ca a ≡ run (taken ca) (read a)
   run-a = frames-are ca a ok-a
 
+  pub same-taken : taken ca ≡ taken cb
+  same-taken = sym (received-run (taken ca) (read a)) ∙ ap received (sym run-a) ∙ same ∙ ap received (frames-are cb b ok-b) ∙ received-run (taken cb) (read b)
+
   pub run-b : frames cb b ≡ run (taken ca) (read b)
-  run-b =
-      let u = frames-are cb b ok-b in
-      let calls : taken ca ≡ taken cb = sym (received-run (taken ca) (read a)) ∙ ap received (sym run-a) ∙ same ∙ ap received u ∙ received-run (taken cb) (read b) in
-      u ∙ ap (λ (l : List Call). run l (read b)) (sym calls)
+  run-b = frames-are cb b ok-b ∙ ap (λ (l : List Call). run l (read b)) (sym same-taken)
 
 abbrev pub NearBlocks : List ℤ → List ℤ → Type 0
 NearBlocks a b = Near (read a .params) (read b .params)
@@ -334,3 +371,9 @@ module _ (ca cb : List Call) (a b : List ℤ) (ok-a : T (accepted-state a)) (ok-
       let x = run-a ca cb a b ok-a ok-b (k .same) in
       let y = run-b ca cb a b ok-a ok-b (k .same) in
       record { pulses-from-2 = rw (x, y) (all .pulses s); samples-from-6 = rw (x, y) (λ n l e. all .samples s (n - 1) (omega arith) e) }
+
+  pub left-same : 5 ≤ length (frames ca a) → Same (state-after (taken ca) (read a) .params) (state-after (taken ca) (read b) .params)
+  left-same l =
+      let x = run-a ca cb a b ok-a ok-b (k .same) in
+      lead-left 0 4 refl (taken ca) (read a) (read b) (subst (λ (u : List FrameValues). 5 ≤ length u) x l) (subst (λ (u : List FrameValues). All (λ v. v .call .kind ≡ 0) (take 5 u)) x (k .voice))
+      (at-start (read a .params) (read b .params)) (λ e. subst (λ (u : List FrameValues). All PassesParity (take 1 u)) x (k .parity))

@@ -6,7 +6,7 @@ use mathlib.Core.List.{List, [], _∷_, _++_}
 use mathlib.Core.Logic.{_≢_}
 use native.Mathlib.Nat.{add-mul-mod-self-right}
 use native.Mathlib.Omega.{arith}
-use lib.Dec.{eqb·suc-zero}
+use lib.Dec.{T, eqb·suc-zero}
 use lib.IntN.{ℤ, pos, negsuc}
 use lib.ListN.{take, replicate}
 use Rattle.laws.specs.Lists.{at}
@@ -153,11 +153,27 @@ tables-b : All (λ c. c .tables ≡ tables) (hb ++ cs)
 unfolding call hb
 tables-b = (refl, tables-a)
 
-real : Real tables ([] ++ (hb ++ (cs ++ cs))) (write (fresh tables)) (write (fresh tables))
-unfolding words octets Gapped state.write state.write-params state.lsp-params state.excitation-params
-real = record { tables = tt; state-a = tt; state-b = tt; payloads = (tt, (tt, (tt, (tt, (tt, (tt, (tt, (tt, (tt, (tt, (tt, (tt, (tt, tt))))))))))))) }
+-- tables and fresh block are words of 16 bits
+pub real-fresh : T (words tables) × T (words (write (fresh tables)))
+unfolding words Gapped state.write state.write-params state.lsp-params state.excitation-params
+real-fresh = (tt, tt)
 
-pub after-four : GapDiffers 4 6 filters
+real : Real tables ([] ++ (hb ++ (cs ++ cs))) (write (fresh tables)) (write (fresh tables))
+unfolding octets Gapped
+real = record { tables = real-fresh .0; state-a = real-fresh .1; state-b = real-fresh .1; payloads = (tt, (tt, (tt, (tt, (tt, (tt, (tt, (tt, (tt, (tt, (tt, (tt, (tt, tt))))))))))))) }
+
+voice-count : concealed (run (taken hb) (fresh tables)) ≡ 0
+unfolding Gapped concealed one-concealed
+voice-count = refl
+
+count-b : concealed (past tables hb) ≡ 0
+count-b = ap concealed (demand-2 .from-fresh tables accepted-here hb) ∙ voice-count
+
+lost-six : only 6 (λ v. one-concealed (v .call .kind)) (run (taken cs) (state-after (taken []) (fresh tables))) ≡ 1 ∷ []
+unfolding Gapped one-concealed
+lost-six = refl
+
+pub after-four : GapDiffers 4 seed-period 6 filters
 after-four =
     record {
       t = tables;
@@ -167,5 +183,7 @@ after-four =
       cb = cs;
       real = real;
       met = record { tables = accepted-here; kept-a = kept tables accepted-here cs tables-a; kept-b = kept tables accepted-here (hb ++ cs) tables-b; common = common-four };
+      counts = ap (λ (n : ℕ). n % seed-period) (past-count 0 ∙ sym count-b);
+      lost = ap (only 6 (λ v. one-concealed (v .call .kind))) (frames-begun cs []) ∙ lost-six;
       differ = λ e. filters-differ (sym (ap (only 6 filters) (frames-begun cs hb)) ∙ sym e ∙ ap (only 6 filters) (frames-begun cs []));
     }

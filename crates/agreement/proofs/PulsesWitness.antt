@@ -5,7 +5,7 @@ use mathlib.Core.Path.{_≡_, refl, sym, ap, _∙_}
 use mathlib.Core.List.{List, [], _∷_, _++_}
 use mathlib.Core.Logic.{_≢_}
 use native.Mathlib.Omega.{arith}
-use lib.Dec.{lit≤}
+use lib.Dec.{T, lit≤}
 use lib.IntN.{ℤ, pos, negsuc}
 use lib.ListN.{replicate}
 use Rattle.laws.specs.Lists.{at}
@@ -18,17 +18,17 @@ use Rattle.gain.specs.Gain as gain
 use Rattle.plc.specs.Kinds.{decide}
 use Rattle.state.specs.declared.Params.{Params}
 use Rattle.state.specs.State as state
-use Rattle.state.specs.State.{State, fresh}
+use Rattle.state.specs.State.{State, write, fresh}
 use Rattle.parameters.specs.Parts.{Parts}
 use Rattle.decoder.specs.Frame.{decode}
-use Rattle.agreement.specs.Demand.{Call, frames, only, All, PassesParity}
+use Rattle.agreement.specs.Demand.{Call, frames, only, All, PassesParity, octets, Real}
 use Rattle.agreement.specs.Run.{taken, frame-of, values-of, run, state-after}
-use Rattle.agreement.specs.Gap.{begun, past, one-concealed, concealed, seed, pulses, Common, PulsesDiffer}
+use Rattle.agreement.specs.Gap.{begun, past, one-concealed, concealed, seed, pulses, Common, GapDiffers}
 use Rattle.agreement.proofs.Agree.{at-start, agree-after}
 use Rattle.agreement.proofs.Witness.{tables, call, is, front, apart}
 use Rattle.agreement.proofs.Seeds.{run-seed}
 use Rattle.agreement.proofs.Gap.{with-seed, Same, codes, settled}
-use Rattle.agreement.proofs.GapWitness.{kept, lost, accepted-here, all-lost, lost-count, past-count, Gapped, frames-begun, common}
+use Rattle.agreement.proofs.GapWitness.{kept, real-fresh, lost, accepted-here, all-lost, lost-count, past-count, Gapped, frames-begun, common}
 
 unfoldable with-gap : List Call
 with-gap = call ∷ call ∷ call ∷ call ∷ call ∷ call ∷ lost ∷ []
@@ -156,7 +156,20 @@ count-b : concealed (past tables past-b) ≡ 1024
 unfolding past-b
 count-b = past-count 1024
 
-pub pulses-1024 : PulsesDiffer 1024 7
+lost-seven : only 7 (λ v. one-concealed (v .call .kind)) (run (taken with-gap) (state-after (taken []) (fresh tables))) ≡ 1 ∷ []
+unfolding Listed one-concealed
+lost-seven = refl
+
+payloads : (n : ℕ) → All (λ c. T (octets (c .payload))) (replicate n lost ++ (with-gap ++ with-gap))
+unfolding octets Listed
+payloads zero = (tt, (tt, (tt, (tt, (tt, (tt, (tt, (tt, (tt, (tt, (tt, (tt, (tt, (tt, tt))))))))))))))
+payloads (suc n) = (tt, payloads n)
+
+real : Real tables ([] ++ (past-b ++ (with-gap ++ with-gap))) (write (fresh tables)) (write (fresh tables))
+unfolding past-b
+real = record { tables = real-fresh .0; state-a = real-fresh .1; state-b = real-fresh .1; payloads = payloads 1024 }
+
+pub pulses-1024 : GapDiffers 6 1024 7 pulses
 pulses-1024 =
     record {
       t = tables;
@@ -164,7 +177,9 @@ pulses-1024 =
       hb = past-b;
       ca = with-gap;
       cb = with-gap;
+      real = real;
       met = record { tables = accepted-here; kept-a = kept tables accepted-here with-gap tables-a; kept-b = kept tables accepted-here (past-b ++ with-gap) tables-b; common = common-six };
       counts = ap (λ (n : ℕ). n % 1024) (past-count 0) ∙ sym (ap (λ (n : ℕ). n % 1024) count-b);
+      lost = ap (only 7 (λ v. one-concealed (v .call .kind))) (frames-begun with-gap []) ∙ lost-seven;
       differ = λ e. pulses-differ (sym (ap (only 7 pulses) (frames-run [])) ∙ e ∙ ap (only 7 pulses) (frames-run past-b));
     }

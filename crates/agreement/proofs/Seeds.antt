@@ -87,13 +87,13 @@ fresh-seed t = written-seed (fresh t) (fresh-sized t)
 pub accepted-fresh : (t : List ℤ) → accepted-tables t → T (accepted-state (write (fresh t)))
 accepted-fresh t h = rw (fresh-accepted t h) tt
 
-pub accepted-begun : (t : List ℤ) → accepted-tables t → (hs : List Call) → T (accepted-state (begun t hs))
+pub accepted-left : (cs : List Call) (b : List ℤ) → T (accepted-state b) → T (accepted-state (block-after cs b))
 unfolding block-after
-accepted-begun t h hs = go hs (write (fresh t)) (accepted-fresh t h)
-  where
-    go : (cs : List Call) (b : List ℤ) → T (accepted-state b) → T (accepted-state (block-after cs b))
-    go [] b ok = ok
-    go (c ∷ cs) b ok = go cs (block (made c b)) (accepted-after c b ok)
+accepted-left [] b ok = ok
+accepted-left (c ∷ cs) b ok = accepted-left cs (block (made c b)) (accepted-after c b ok)
+
+pub accepted-begun : (t : List ℤ) → accepted-tables t → (hs : List Call) → T (accepted-state (begun t hs))
+accepted-begun t h hs = accepted-left hs (write (fresh t)) (accepted-fresh t h)
 
 pub seed-is : (t : List ℤ) → accepted-tables t → (hs : List Call) → seed (begun t hs) ≡ draws (4 * concealed (past t hs)) (pos 21845)
 seed-is t h hs = seed-left hs (write (fresh t)) (accepted-fresh t h) ∙ ap (draws (4 * concealed (past t hs))) (fresh-seed t)

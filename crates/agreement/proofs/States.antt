@@ -1,20 +1,25 @@
--- What `agree` answers of two state blocks holds of all frames that both decoders then receive (`states-agree` of specs/Gap.antt).
-use Prim.Native.Nat.{ℕ, zero, suc}
-use mathlib.Core.Path.{_≡_, refl}
+-- What `agree` answers of two state blocks holds of all frames that both decoders then receive, and it says something of what five common voice frames leave (`states-agree`, `told-after-five` of specs/Gap.antt).
+use Prim.Native.Nat.{ℕ, zero, suc, _≤_}
+use mathlib.Core.Path.{_≡_, refl, sym, ap, _∙_}
 use mathlib.Core.Bool.{Bool, true, false, cond}
 use mathlib.Core.List.{List}
 use lib.Dec.{T, lit≤, eqb·suc-zero}
 use lib.IntN.{ℤ}
+use lib.ListN.{length}
+use lib.Ieee.Bits.{is-true}
 use Rattle.state.specs.State.{read, accepted-state}
+use Rattle.state.specs.Laws.{read-sized, read-write}
 use Rattle.agree.specs.declared.Agreed.{Agreed}
 use Rattle.agree.specs.declared.Agreed.the-variants as agreed
-use Rattle.agree.specs.Agree.{same-parameters, same-draws, same-signal, refusal, agreement, agree}
-use Rattle.agree.specs.Laws.{parameters-equal, draws-equal, signal-equal, agree-accepted}
+use Rattle.agree.specs.Agree.{same-parameters, same-seed-bits, same-signal, refusal, agreement, agree}
+use Rattle.agree.specs.Laws.{parameters-equal, equal-parameters, seed-bits-equal, signal-equal, agree-accepted, accepted-agree}
 use Rattle.agreement.specs.Demand.{Call, frames}
-use Rattle.agreement.specs.Run.{taken, run}
-use Rattle.agreement.specs.Gap.{received, SameParameters, Foretold}
+use Rattle.agreement.specs.Run.{taken, run, state-after, block-after}
+use Rattle.agreement.specs.Gap.{received, Common, ParametersAgree, Foretold, Told}
+use Rattle.agreement.proofs.Runs.{demand-2}
 use Rattle.agreement.proofs.Agree.{begins}
-use Rattle.agreement.proofs.Gap.{same-params, Near, Rest, gap, run-a, run-b}
+use Rattle.agreement.proofs.Seeds.{sized-run, accepted-left}
+use Rattle.agreement.proofs.Gap.{Same, same-params, params-same, Near, Rest, gap, same-taken, run-a, run-b, left-same}
 
 module _ (a b : List ℤ) (ca cb : List Call) (same : received (frames ca a) ≡ received (frames cb b)) where
   holds : Agreed → Type 0
@@ -37,7 +42,7 @@ module _ (a b : List ℤ) (ca cb : List Call) (same : received (frames ca a) ≡
     y : frames cb b ≡ run (taken ca) (read b)
     y = run-b ca cb a b ok-a ok-b same
 
-    parameters-hold : SameParameters (frames ca a) (frames cb b)
+    parameters-hold : ParametersAgree (frames ca a) (frames cb b)
     parameters-hold =
         let u = all .values in
         record {
@@ -48,19 +53,19 @@ module _ (a b : List ℤ) (ca cb : List Call) (same : received (frames ca a) ≡
           filters-all = rw (x, y) (u .filters);
         }
 
-    near : same-draws a b ≡ true → Near (read a .params) (read b .params)
+    near : same-seed-bits a b ≡ true → Near (read a .params) (read b .params)
     unfolding read
-    near d = draws-equal a b d
+    near d = seed-bits-equal a b d
 
-    pulses-hold : same-draws a b ≡ true → holds agreed.Pulses
+    pulses-hold : same-seed-bits a b ≡ true → holds agreed.Pulses
     unfolding holds
     pulses-hold d = (parameters-hold, rw (x, y) (all .pulses (near d)))
 
-    samples-hold : same-draws a b ≡ true → same-signal a b ≡ true → holds agreed.Samples
+    samples-hold : same-seed-bits a b ≡ true → same-signal a b ≡ true → holds agreed.Samples
     unfolding holds read
     samples-hold d s = (parameters-hold, pulses-hold d .1, rw (x, y) (all .samples (near d) 0 (lit≤ tt) (begins (taken ca) (read a) (read b) (signal-equal a b s))))
 
-    by : (p q : Bool) → same-draws a b ≡ p → same-signal a b ≡ q → holds (cond p (cond q agreed.Samples agreed.Pulses) agreed.Parameters)
+    by : (p q : Bool) → same-seed-bits a b ≡ p → same-signal a b ≡ q → holds (cond p (cond q agreed.Samples agreed.Pulses) agreed.Parameters)
     unfolding holds
     by true true d s = samples-hold d s
     by true false d s = pulses-hold d
@@ -70,10 +75,33 @@ module _ (a b : List ℤ) (ca cb : List Call) (same : received (frames ca a) ≡
   unfolding holds agree agreement
   states-agree = go (refusal a b) refl
     where
-      not-refused : refusal a b ≡ 0 → (p : Bool) → same-parameters a b ≡ p → holds (cond p (cond (same-draws a b) (cond (same-signal a b) agreed.Samples agreed.Pulses) agreed.Parameters) agreed.Nothing)
-      not-refused ok true e = by ok e (same-draws a b) (same-signal a b) refl refl
+      not-refused : refusal a b ≡ 0 → (p : Bool) → same-parameters a b ≡ p → holds (cond p (cond (same-seed-bits a b) (cond (same-signal a b) agreed.Samples agreed.Pulses) agreed.Parameters) agreed.Nothing)
+      not-refused ok true e = by ok e (same-seed-bits a b) (same-signal a b) refl refl
       not-refused ok false e = tt
 
       go : (n : ℕ) → refusal a b ≡ n → Foretold (agree a b) (frames ca a) (frames cb b)
       go zero ok = rw ok (not-refused ok (same-parameters a b) refl)
       go (suc n) e = rw (e, eqb·suc-zero) tt
+
+-- ---- what common frames leave, once five were voice frames in a row
+
+-- the state that calls leave of an accepted block
+read-left : (cs : List Call) (b : List ℤ) → T (accepted-state b) → read (block-after cs b) ≡ state-after (taken cs) (read b)
+read-left cs b ok = ap read (demand-2 .block-left cs b ok) ∙ read-write _ (sized-run (taken cs) (read b) (read-sized b))
+
+told : (a b : List ℤ) → T (accepted-state a) → T (accepted-state b) → Same (read a .params) (read b .params) → Told (agree a b)
+unfolding agree agreement read
+told a b ok-a ok-b e =
+    rw (accepted-agree a b (is-true (accepted-state a) ok-a) (is-true (accepted-state b) ok-b), equal-parameters a b (params-same _ _ e)) (by (same-seed-bits a b) (same-signal a b))
+  where
+    by : (p q : Bool) → Told (cond p (cond q agreed.Samples agreed.Pulses) agreed.Parameters)
+    by true true = tt
+    by true false = tt
+    by false q = tt
+
+pub told-after-five : (ca cb : List Call) (a b : List ℤ) → T (accepted-state a) → T (accepted-state b) → Common 5 (frames ca a) (frames cb b) → 5 ≤ length (frames ca a)
+    → Told (agree (block-after ca a) (block-after cb b))
+told-after-five ca cb a b ok-a ok-b k l =
+    let x = read-left ca a ok-a in
+    let y : read (block-after cb b) ≡ state-after (taken ca) (read b) = read-left cb b ok-b ∙ ap (λ (c : List Call). state-after c (read b)) (sym (same-taken ca cb a b ok-a ok-b (k .same))) in
+    told (block-after ca a) (block-after cb b) (accepted-left ca a ok-a) (accepted-left cb b ok-b) (rw (x, y) (left-same ca cb a b ok-a ok-b k l))

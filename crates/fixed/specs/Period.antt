@@ -324,21 +324,6 @@ same-seed s h m n = (to, back)
         let k : low16 (draws m s) ≡ low16 (draws n s) = omega arith in
         sym (draws-back m s h) ∙ ap (toZ w16) k ∙ draws-back n s h
 
-pub period : Period
-unfolding steps
-period =
-    record {
-      visits = λ x y h l.
-          let r : Reached 65536 (low16 x) (low16 y) = reached 16 (low16 x) (low16 y) in
-          let e : iter (r .k) (low16 x) % 65536 ≡ low16 y % 65536 = remainders 65536 _ _ (r .same) in
-          let p = low-lt y in
-          let k : low16 (draws (r .k) x) ≡ low16 y = low-draws (r .k) x ∙ e ∙ omega arith in
-          (r .k, r .below, sym (draws-back (r .k) x h) ∙ ap (toZ w16) k ∙ word-back y l);
-      returns = λ x h. same-seed x h 65536 0 .1 refl;
-      no-earlier = λ x n e. low-bits 16 (omega arith) x n 0 .0 (ap (λ (y : ℤ). low16 y % 65536) e);
-      low-bits = low-bits;
-    }
-
 -- ---- what an erased subframe draws is made of the 13 low bits of the seed, and so are those of the seed that it leaves
 
 low-random : (x y : ℤ) → low16 x % 8192 ≡ low16 y % 8192 → low16 (random x) % 8192 ≡ low16 (random y) % 8192
@@ -361,3 +346,21 @@ low-drawn x y e =
     let f = low-random x y e in
     let g = low-random (random x) (random y) f in
     (f, omega arith, g)
+
+-- ---- all of it
+
+pub period : Period
+unfolding steps
+period =
+    record {
+      visits = λ x y h l.
+          let r : Reached 65536 (low16 x) (low16 y) = reached 16 (low16 x) (low16 y) in
+          let e : iter (r .k) (low16 x) % 65536 ≡ low16 y % 65536 = remainders 65536 _ _ (r .same) in
+          let p = low-lt y in
+          let k : low16 (draws (r .k) x) ≡ low16 y = low-draws (r .k) x ∙ e ∙ omega arith in
+          (r .k, r .below, sym (draws-back (r .k) x h) ∙ ap (toZ w16) k ∙ word-back y l);
+      returns = λ x h. same-seed x h 65536 0 .1 refl;
+      no-earlier = λ x n e. low-bits 16 (omega arith) x n 0 .0 (ap (λ (y : ℤ). low16 y % 65536) e);
+      low-bits = low-bits;
+      low-drawn = low-drawn;
+    }

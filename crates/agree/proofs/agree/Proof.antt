@@ -25,7 +25,7 @@ returns-3 c =
       ← k .before .refusal .ensures,
       eq-eqb _ _ (k .if1 .left),
       sym (p .before .same-parameters .ensures) ∙ not-false _ (p .if2 .left),
-      sym (c .before .same-draws .ensures) ∙ not-true _ (c .if3 .taken),
+      sym (c .before .same-seed-bits .ensures) ∙ not-true _ (c .if3 .taken),
     )
 
 returns-4 : tie.Need-returns-4
@@ -38,7 +38,7 @@ returns-4 c =
       ← k .before .refusal .ensures,
       eq-eqb _ _ (k .if1 .left),
       sym (p .before .same-parameters .ensures) ∙ not-false _ (p .if2 .left),
-      sym (d .before .same-draws .ensures) ∙ not-false _ (d .if3 .left),
+      sym (d .before .same-seed-bits .ensures) ∙ not-false _ (d .if3 .left),
       sym (c .before .same-signal .ensures) ∙ not-true _ (c .if4 .taken),
     )
 
@@ -52,7 +52,7 @@ returns-5 c =
       ← k .before .refusal .ensures,
       eq-eqb _ _ (k .if1 .left),
       sym (p .before .same-parameters .ensures) ∙ not-false _ (p .if2 .left),
-      sym (d .before .same-draws .ensures) ∙ not-false _ (d .if3 .left),
+      sym (d .before .same-seed-bits .ensures) ∙ not-false _ (d .if3 .left),
       sym (c .before .same-signal .ensures) ∙ not-false _ (c .if4 .left),
     )
 
