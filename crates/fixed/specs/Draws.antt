@@ -18,13 +18,18 @@ draws n s = steps (λ _ x. random x) n s
 unfoldable pub word : ℤ → Bool
 word x = leZ (negsuc 32767) x && leZ x (pos 32767)
 
+-- the number of seeds
+abbrev pub all-seeds : ℕ
+all-seeds = 65536
+
 -- the draw visits all 65,536 seeds before it returns
 pub record Period : Type 0 where
-  -- from every seed every seed is drawn, in fewer than 65,536 draws
-  pub visits : (x y : ℤ) → T (word x) → T (word y) → (k : ℕ) × (k < 65536) × (draws k x ≡ y)
-  pub returns : (x : ℤ) → T (word x) → draws 65536 x ≡ x
-  -- and after no number of draws that isn't a multiple of 65,536
-  pub no-earlier : (x : ℤ) (n : ℕ) → draws n x ≡ x → n % 65536 ≡ 0
+  -- it returns after as many draws as there are seeds
+  pub returns : (x : ℤ) → T (word x) → draws all-seeds x ≡ x
+  -- and after no number of draws that isn't a multiple of that
+  pub no-earlier : (x : ℤ) (n : ℕ) → draws n x ≡ x → n % all-seeds ≡ 0
+  -- from every seed every seed is drawn before
+  pub visits : (x y : ℤ) → T (word x) → T (word y) → (k : ℕ) × (k < all-seeds) × (draws k x ≡ y)
   -- the j low bits of a seed return after 2 ^ j draws, and after no other number but its multiples: two numbers of draws from one seed give the same
   -- j bits just where they agree modulo 2 ^ j
   pub low-bits : (j : ℕ) → j ≤ 16 → (s : ℤ) (m n : ℕ) → (low16 (draws m s) % 2 ^ j ≡ low16 (draws n s) % 2 ^ j) ↔ (m % 2 ^ j ≡ n % 2 ^ j)

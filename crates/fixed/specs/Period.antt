@@ -18,7 +18,7 @@ use Rattle.laws.specs.Loops.{steps}
 use Rattle.basic_op.specs.Ops.{low16, extract-l}
 use Rattle.basic_op.specs.Low.{low-lt}
 use Rattle.fixed.specs.Fixed.{random, random-index}
-use Rattle.fixed.specs.Draws.{draws, word, Period}
+use Rattle.fixed.specs.Draws.{draws, word, all-seeds, Period}
 
 -- ---- numbers that are equal modulo m
 
@@ -353,13 +353,13 @@ pub period : Period
 unfolding steps
 period =
     record {
+      returns = λ x h. same-seed x h all-seeds 0 .1 refl;
       visits = λ x y h l.
           let r : Reached 65536 (low16 x) (low16 y) = reached 16 (low16 x) (low16 y) in
           let e : iter (r .k) (low16 x) % 65536 ≡ low16 y % 65536 = remainders 65536 _ _ (r .same) in
           let p = low-lt y in
           let k : low16 (draws (r .k) x) ≡ low16 y = low-draws (r .k) x ∙ e ∙ omega arith in
           (r .k, r .below, sym (draws-back (r .k) x h) ∙ ap (toZ w16) k ∙ word-back y l);
-      returns = λ x h. same-seed x h 65536 0 .1 refl;
       no-earlier = λ x n e. low-bits 16 (omega arith) x n 0 .0 (ap (λ (y : ℤ). low16 y % 65536) e);
       low-bits = low-bits;
       low-drawn = low-drawn;
