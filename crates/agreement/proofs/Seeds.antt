@@ -48,8 +48,11 @@ one-seed c s = go (c .kind) refl
 
 -- ---- a list of frames
 
-parts : (m n : ℕ) (s : ℤ) → draws n (draws m s) ≡ draws (m + n) s
-parts m n s = sym (steps-parts (λ _ x. random x) m n s)
+-- the draws of m frames, then those of n
+then : (m n : ℕ) (s : ℤ) → draws (4 * n) (draws (4 * m) s) ≡ draws (4 * (m + n)) s
+then m n s =
+    let e : 4 * m + 4 * n ≡ 4 * (m + n) = omega arith in
+    sym (steps-parts (λ _ x. random x) (4 * m) (4 * n) s) ∙ ap (λ (k : ℕ). draws k s) e
 
 pub run-seed : (cs : List Call) (s : State) → state-after cs s .params .seed ≡ draws (4 * concealed (run cs s)) (s .params .seed)
 unfolding state-after run concealed values-of steps
@@ -57,10 +60,7 @@ run-seed [] s = refl
 run-seed (c ∷ cs) s =
     let n = concealed (run cs (frame-of c s .state)) in
     let k = one-concealed (c .kind) in
-    run-seed cs (frame-of c s .state) ∙ ap (draws (4 * n)) (one-seed c s) ∙ parts (4 * k) (4 * n) (s .params .seed) ∙ ap (λ (m : ℕ). draws m (s .params .seed)) (sums k n)
-  where
-    sums : (k n : ℕ) → 4 * k + 4 * n ≡ 4 * (k + n)
-    sums k n = omega arith
+    run-seed cs (frame-of c s .state) ∙ ap (draws (4 * n)) (one-seed c s) ∙ then k n (s .params .seed)
 
 -- ---- on blocks
 
@@ -138,13 +138,8 @@ block-parts (c ∷ hs) cs b = block-parts hs cs (block (made c b))
 
 seed-then : (t : List ℤ) → accepted-tables t → (hs cs : List Call) → seed (begun t (hs ++ cs)) ≡ draws (4 * (concealed (past t hs) + concealed (frames cs (begun t hs)))) (pos 21845)
 seed-then t h hs cs =
-    let m = concealed (past t hs) in
     let k = concealed (frames cs (begun t hs)) in
-    ap seed (block-parts hs cs (write (fresh t))) ∙ seed-left cs (begun t hs) (accepted-begun t h hs) ∙ ap (draws (4 * k)) (seed-is t h hs) ∙ parts (4 * m) (4 * k) (pos 21845)
-    ∙ ap (λ (n : ℕ). draws n (pos 21845)) (sums m k)
-  where
-    sums : (m k : ℕ) → 4 * m + 4 * k ≡ 4 * (m + k)
-    sums m k = omega arith
+    ap seed (block-parts hs cs (write (fresh t))) ∙ seed-left cs (begun t hs) (accepted-begun t h hs) ∙ ap (draws (4 * k)) (seed-is t h hs) ∙ then (concealed (past t hs)) k (pos 21845)
 
 both-more : (m n k : ℕ) → ((m + k) % seed-period ≡ (n + k) % seed-period) ↔ (m % seed-period ≡ n % seed-period)
 both-more m n k = (λ e. omega arith, λ e. omega arith)
