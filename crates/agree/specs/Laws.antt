@@ -8,8 +8,7 @@ use lib.Dec.{eqb, ltb}
 use lib.IntN.{ℤ, pos, negsuc}
 use lib.ListN.{length}
 use lib.Signed.{ltZ}
-use borrow.Author.Tests.{ltb-true, ltb-false, le-ltb}
-use borrow.Author.Tests.{eqb-true}
+use borrow.Author.Tests.{ltb-true, ltb-false, le-ltb, eqb-true}
 use Rattle.laws.specs.Lists.{at, tab, at-tab}
 use Rattle.laws.specs.Loops.{nowhere-each, nowhere-all}
 use Rattle.laws.specs.Ints.{most-both}
@@ -118,7 +117,7 @@ parameters-equal a b e =
       beta = equal-word a b 63 7 (h .1) 69 (omega arith) (omega arith);
     }
 
--- the bits of the seeds that a concealed frame's pulses are made of
+-- and the other way round
 pub equal-parameters : (a b : List ℤ) → SameParams (read-params a) (read-params b) → same-parameters a b ≡ true
 unfolding same-parameters read-params
 equal-parameters a b g = rw (words-equal a b 0 62 lsf, words-equal a b 63 7 gains)
@@ -137,6 +136,7 @@ equal-parameters a b g = rw (words-equal a b 0 62 lsf, words-equal a b 63 7 gain
         joined a b 63 67 70 (part-equal a b 63 4 (g .mem))
         (joined a b 67 68 70 (word-equal a b 67 (g .gp)) (joined a b 68 69 70 (word-equal a b 68 (g .gc)) (word-equal a b 69 (g .beta))))
 
+-- the bits of the seeds that a concealed frame's pulses are made of
 pub seed-bits-equal : (a b : List ℤ) → same-seed-bits a b ≡ true → low16 (read-params a .seed) % 2 ^ 13 ≡ low16 (read-params b .seed) % 2 ^ 13
 unfolding same-seed-bits read-params
 seed-bits-equal a b e = eqb-true _ _ e
@@ -161,6 +161,7 @@ agree-accepted a b e = go (eqb (length a) state-length) (eqb (length b) state-le
     go true false p q h = absurd (omega arith)
     go false l p q h = absurd (omega arith)
 
+-- and the other way round
 pub accepted-agree : (a b : List ℤ) → accepted-state a ≡ true → accepted-state b ≡ true → refusal a b ≡ 0
 unfolding refusal accepted-state
 accepted-agree a b x y = go (eqb (length a) state-length) (eqb (length b) state-length) (accepted (read-params a)) (accepted (read-params b)) x y

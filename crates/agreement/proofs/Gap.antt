@@ -314,7 +314,7 @@ lead n (suc m) q (c ∷ cs) a b h g first =
     (lead (suc n) m (omega arith) cs (frame-of c a .state) (frame-of c b .state) (h .1) (agree-after n c (h .0) a b g p) (λ e. absurd (omega arith)))
 
 -- and what is left once five were voice
-lead-left : (n m : ℕ) → n + suc m ≡ 5 → (cs : List Call) (a b : State) → suc m ≤ length (run cs a) → All (λ u. u .call .kind ≡ 0) (take (suc m) (run cs a)) → Agree n (a .params) (b .params)
+pub lead-left : (n m : ℕ) → n + suc m ≡ 5 → (cs : List Call) (a b : State) → suc m ≤ length (run cs a) → All (λ u. u .call .kind ≡ 0) (take (suc m) (run cs a)) → Agree n (a .params) (b .params)
     → (n ≡ 0 → All PassesParity (take 1 (run cs a))) → Same (state-after cs a .params) (state-after cs b .params)
 unfolding run values-of state-after
 lead-left n m q [] a b l h g first = absurd (omega arith)

@@ -11,7 +11,6 @@ use Rattle.fixed.specs.Period.{period}
 use Rattle.state.specs.State.{read-params, read, accepted-state}
 use Rattle.agreement.specs.Demand.{Call, frames, All}
 use Rattle.agreement.specs.Gap.{begun, SeedBits, Common, Met, Through, SamePulses, Gap, BesideGap}
-use Rattle.agreement.proofs.Witness.{tables, call}
 use Rattle.agreement.proofs.Seeds.{accepted-begun, seed-is, seeds, seeds-stay, low-seeds}
 use Rattle.agreement.proofs.States.{states-agree, told-after-five}
 use Rattle.agreement.proofs.Gap.{after-five, near-pulses}

@@ -1,10 +1,9 @@
 -- Pulses can't be told modulo 1,024 (`pulses-1024` of specs/Gap.antt): a fresh decoder and one that lost 1,024 frames, then six common voice frames and a lost one. The draws of the 1,024 frames are computed, nothing
 -- else of them: six voice frames leave all but the seed equal.
-use Prim.Native.Nat.{ℕ, zero, suc, _+_, _*_, _%_, _≤_}
+use Prim.Native.Nat.{ℕ, zero, suc, _*_, _%_}
 use mathlib.Core.Path.{_≡_, refl, sym, ap, _∙_}
 use mathlib.Core.List.{List, [], _∷_, _++_}
 use mathlib.Core.Logic.{_≢_}
-use native.Mathlib.Omega.{arith}
 use lib.Dec.{T, lit≤}
 use lib.IntN.{ℤ, pos, negsuc}
 use lib.ListN.{replicate}
@@ -21,13 +20,13 @@ use Rattle.state.specs.State as state
 use Rattle.state.specs.State.{State, write, fresh}
 use Rattle.parameters.specs.Parts.{Parts}
 use Rattle.decoder.specs.Frame.{decode}
-use Rattle.agreement.specs.Demand.{Call, frames, only, All, PassesParity, octets, Real}
+use Rattle.agreement.specs.Demand.{Call, frames, only, All, octets, Real}
 use Rattle.agreement.specs.Run.{taken, frame-of, values-of, run, state-after}
-use Rattle.agreement.specs.Gap.{begun, past, one-concealed, concealed, seed, pulses, Common, GapDiffers}
-use Rattle.agreement.proofs.Agree.{at-start, agree-after}
+use Rattle.agreement.specs.Gap.{begun, past, one-concealed, concealed, pulses, Common, GapDiffers}
+use Rattle.agreement.proofs.Agree.{at-start}
 use Rattle.agreement.proofs.Witness.{tables, call, is, front, apart}
 use Rattle.agreement.proofs.Seeds.{run-seed}
-use Rattle.agreement.proofs.Gap.{with-seed, Same, codes, settled}
+use Rattle.agreement.proofs.Gap.{with-seed, Same, codes, lead-left}
 use Rattle.agreement.proofs.GapWitness.{kept, real-fresh, lost, accepted-here, all-lost, lost-count, past-count, Gapped, frames-begun, common}
 
 unfoldable with-gap : List Call
@@ -56,27 +55,10 @@ draws-4096 : draws 4096 (pos 21845) ≡ negsuc 15018
 unfolding steps random extract-l low16
 draws-4096 = refl
 
--- after six voice frames all but the seed is that of the decoder that was fresh before them
-good : (s : State) → PassesParity (values-of call s)
-unfolding Listed
-good s = tt
-
-call-voice : call .kind ≡ 0
-unfolding call
-call-voice = refl
-
+-- after six voice frames all but the seed is equal, whatever was before them
 after-six : (a b : State) → Same (state-after six a .params) (state-after six b .params)
-unfolding state-after six
-after-six a b =
-    let next : State → State = λ s. frame-of call s .state in
-    let none : (n : ℕ) (s : State) → suc n ≡ 0 → PassesParity (values-of call s) = λ n s e. absurd (omega arith) in
-    let g1 = agree-after 0 call call-voice a b (at-start (a .params) (b .params)) (λ e. good a) in
-    let g2 = agree-after 1 call call-voice (next a) (next b) g1 (none 0 _) in
-    let g3 = agree-after 2 call call-voice (next (next a)) (next (next b)) g2 (none 1 _) in
-    let g4 = agree-after 3 call call-voice (next (next (next a))) (next (next (next b))) g3 (none 2 _) in
-    let g5 = agree-after 4 call call-voice (next (next (next (next a)))) (next (next (next (next b)))) g4 (none 3 _) in
-    let g6 = agree-after 5 call call-voice (next (next (next (next (next a))))) (next (next (next (next (next b))))) g5 (none 4 _) in
-    settled 6 _ _ (lit≤ tt) g6
+unfolding Listed
+after-six a b = lead-left 0 4 refl six a b (lit≤ tt) (refl, (refl, (refl, (refl, (refl, tt))))) (at-start (a .params) (b .params)) (λ e. (tt, tt))
 
 none-concealed : (s : State) → concealed (run six s) ≡ 0
 unfolding concealed one-concealed run values-of call six
