@@ -65,7 +65,7 @@ pub fn subframe_signal(
 }
 
 // The signal of the frame: its two subframes, one after the other.
-fn frame_signal(
+pub fn frame_signal(
     t: &[i16],
     v: Decoded,
     exc: &mut [i16; EXC_LENGTH],

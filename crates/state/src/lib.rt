@@ -162,7 +162,7 @@ pub fn copy_block(b: &mut [i16], v: [i16; STATE_LENGTH])
 // ---- refusals
 
 // Whether the predictor and the delay are in range.
-fn accepted(b: &[i16]) -> bool
+pub fn accepted(b: &[i16]) -> bool
     ensures { λ r. ⌜ r ≡ accepted (read-params (now (b .entry))) ⌝ }
 {
     let p = block::word(b, 40);
@@ -190,7 +190,7 @@ pub fn state_check(b: &[i16]) -> u32
 // ---- the operation Fresh state
 
 // The parameters before the first frame (01; Table 9 of G.729 and clause 4.4.4).
-fn fresh_params(t: &[i16]) -> Params
+pub fn fresh_params(t: &[i16]) -> Params
     ensures { λ r. ⌜ r ≡ fresh-params (now (t .entry)) ⌝ }
 {
     let row = tables::formula::lsp_quantizer_initial_memory();

@@ -41,7 +41,7 @@ pub fn excitation(exc: &mut [i16; EXC_LENGTH], second: bool, code: &[i16; 40], g
 }
 
 // The whole excitation, divided by 4.
-fn divide_by_4(exc: &mut [i16])
+pub fn divide_by_4(exc: &mut [i16])
     ensures { λ r. ⌜ now (exc .exit) ≡ divide-by-4 (now (exc .entry)) ⌝ }
 {
     for n in 0..exc.len() {

@@ -59,7 +59,7 @@ fn size(c: i16) -> u32
 }
 
 // The sizes of all coefficients together.
-fn size_sum(a: &[i16; 11]) -> u32
+pub fn size_sum(a: &[i16; 11]) -> u32
     ensures { λ r. ⌜ r ≡ size-sum (now (a .entry)) 10 ⌝ }
 {
     let mut w = size(a[0]);
@@ -69,7 +69,7 @@ fn size_sum(a: &[i16; 11]) -> u32
     w
 }
 
-fn product(a: i16, b: i16) -> i64
+pub fn product(a: i16, b: i16) -> i64
     ensures { λ r. ⌜ r ≡ a *ℤ b ⌝ }
     ensures { λ r. ⌜ mag r < 2147483648 ⌝ }
 {

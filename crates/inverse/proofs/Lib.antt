@@ -1,0 +1,2 @@
+-- Laws that the proofs of `inverse` share.
+pub mod Parts
