@@ -60,7 +60,7 @@ words-equal a b p n h =
     rw (e, never-less (at b (p + k))))
 
 -- in parts
-joined : (a b : List ℤ) (p q r : ℕ) → Equal a b p q → Equal a b q r → Equal a b p r
+pub joined : (a b : List ℤ) (p q r : ℕ) → Equal a b p q → Equal a b q r → Equal a b p r
 joined a b p q r x y k g h = by (ltb k q) refl
   where
     by : (t : Bool) → ltb k q ≡ t → at a k ≡ at b k
@@ -70,7 +70,7 @@ joined a b p q r x y k g h = by (ltb k q) refl
 word-equal : (a b : List ℤ) (p : ℕ) → at a p ≡ at b p → Equal a b p (suc p)
 word-equal a b p e k g h = let j : k ≡ p = omega arith in rw j e
 
-part-equal : (a b : List ℤ) (p n : ℕ) → part a p n ≡ part b p n → Equal a b p (p + n)
+pub part-equal : (a b : List ℤ) (p n : ℕ) → part a p n ≡ part b p n → Equal a b p (p + n)
 unfolding part
 part-equal a b p n e k g h =
     let j : k ≡ p + (k - p) = omega arith in

@@ -220,10 +220,10 @@ module _ (n : ℕ) (c : Call) (k : c .kind ≡ 0) (a b : State) (h : Agree n (a 
 
 -- ---- the run of a list of voice frames
 
-abbrev Voices : List Call → Type 0
+abbrev pub Voices : List Call → Type 0
 Voices cs = All (λ c. c .kind ≡ 0) cs
 
-voices : (t : List ℤ) (cs : List Call) (s : State) → All (VoiceWith t) (run cs s) → Voices cs
+pub voices : (t : List ℤ) (cs : List Call) (s : State) → All (VoiceWith t) (run cs s) → Voices cs
 unfolding values-of run
 voices t [] s h = tt
 voices t (c ∷ cs) s h = (h .0 .0, voices t cs _ (h .1))
@@ -288,9 +288,9 @@ voice-values n c k a b vs ws h first r =
 abbrev pub Samples : ℕ → List FrameValues → List FrameValues → Type 0
 Samples n vs ws = (m : ℕ) → 5 ≤ n + m → map signal-before (take 1 (drop m vs)) ≡ map signal-before (take 1 (drop m ws)) → map samples (drop m vs) ≡ map samples (drop m ws)
 
-record Rest (n : ℕ) (vs ws : List FrameValues) : Type 0 where
-  values : Values n vs ws
-  samples : Samples n vs ws
+pub record Rest (n : ℕ) (vs ws : List FrameValues) : Type 0 where
+  pub values : Values n vs ws
+  pub samples : Samples n vs ws
 
 one-call : (n : ℕ) (c : Call) (k : c .kind ≡ 0) (a b : State) (vs ws : List FrameValues) → Agree n (a .params) (b .params) → (n ≡ 0 → PassesParity (values-of c a))
     → (5 ≤ n → a .signal ≡ b .signal → map samples vs ≡ map samples ws) → Rest (suc n) vs ws → Rest n (values-of c a ∷ vs) (values-of c b ∷ ws)
@@ -303,7 +303,7 @@ one-call n c k a b vs ws h first loud r = record { values = voice-values n c k a
     same (suc m) l e = r .samples m (omega arith) e
 
 -- frame 1 is among those that follow only where n is 0
-First : ℕ → List FrameValues → Type 0
+unfoldable pub First : ℕ → List FrameValues → Type 0
 First n vs = n ≡ 0 → All PassesParity (take 1 vs)
 
 -- the first frame of a run has the signal before it
@@ -312,7 +312,7 @@ unfolding run values-of
 begins [] a b e = refl
 begins (c ∷ cs) a b e = ap (λ (s : Signal). s ∷ []) e
 
-rest : (n : ℕ) (cs : List Call) (a b : State) → Voices cs → Agree n (a .params) (b .params) → First n (run cs a) → Rest n (run cs a) (run cs b)
+pub rest : (n : ℕ) (cs : List Call) (a b : State) → Voices cs → Agree n (a .params) (b .params) → First n (run cs a) → Rest n (run cs a) (run cs b)
 unfolding run First
 rest n [] a b h g first = record { values = no-values n; samples = λ m l e. refl }
 rest n (c ∷ cs) a b h g first =

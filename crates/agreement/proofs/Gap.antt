@@ -6,6 +6,7 @@ use native.Mathlib.Omega.{arith}
 use lib.Dec.{T}
 use lib.IntN.{ℤ, pos}
 use lib.ListN.{length, drop, take}
+use Rattle.laws.specs.Lists.{at}
 use Rattle.basic_op.specs.Ops.{low16}
 use Rattle.bitstream.specs.Fields.{unpack}
 use Rattle.pitch.specs.declared.Delay.{Delay}
@@ -166,7 +167,7 @@ module _ (c : Call) (a b : State) (e : Same (a .params) (b .params)) where
   unfolding frame-of decode
   values-same = plain-same (c .tables) (a .params) (b .params) e (decide (c .kind) (c .payload))
 
-  same-after : Same (frame-of c a .state .params) (frame-of c b .state .params)
+  pub same-after : Same (frame-of c a .state .params) (frame-of c b .state .params)
   unfolding frame-of decode plain
   same-after = record { is = ap (λ (x : Plain). x .params) values-same }
 
@@ -266,6 +267,27 @@ settled n p q l g =
       gc = g .gc (omega arith);
       beta = g .beta (omega arith);
     })
+
+-- and the other way round
+pub same-agree : (n : ℕ) (p q : Params) → Same p q → Agree n p q
+same-agree n p q e =
+    let g = params-same p q e in
+    record {
+      old = λ l. g .old;
+      beta = λ l. g .beta;
+      mem0 = λ l. ap (λ (m : List ℤ). at m 0) (g .mem);
+      mem1 = λ l. ap (λ (m : List ℤ). at m 1) (g .mem);
+      mem = λ l. g .mem;
+      gp = λ l. g .gp;
+      gc = λ l. g .gc;
+      predictor = λ l. g .predictor;
+      r0 = λ l. g .r0;
+      r1 = λ l. g .r1;
+      r2 = λ l. g .r2;
+      r3 = λ l. g .r3;
+      omega = λ l. g .omega;
+      lsp = λ l. g .lsp;
+    }
 
 -- a voice frame leaves the seed as it was
 voice-seed : (c : Call) (s : State) → c .kind ≡ 0 → frame-of c s .state .params .seed ≡ s .params .seed

@@ -86,7 +86,7 @@ module _ (a b : List ℤ) (ca cb : List Call) (same : received (frames ca a) ≡
 -- ---- what common frames leave, once five were voice frames in a row
 
 -- the state that calls leave of an accepted block
-read-left : (cs : List Call) (b : List ℤ) → T (accepted-state b) → read (block-after cs b) ≡ state-after (taken cs) (read b)
+pub read-left : (cs : List Call) (b : List ℤ) → T (accepted-state b) → read (block-after cs b) ≡ state-after (taken cs) (read b)
 read-left cs b ok = ap read (demand-2 .block-left cs b ok) ∙ read-write _ (sized-run (taken cs) (read b) (read-sized b))
 
 told : (a b : List ℤ) → T (accepted-state a) → T (accepted-state b) → Same (read a .params) (read b .params) → Told (agree a b)

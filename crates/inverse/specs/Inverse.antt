@@ -65,6 +65,6 @@ window-words second third fourth w = drop 6 (shrunk-before fourth 120 (shrunk-be
 
 -- ---- as they are kept
 
--- a word kept in 16 bits. What a decoder's samples tell needs no more (`words-fit` of Laws); other samples may tell anything
+-- a word kept in 16 bits. What a decoder's samples tell needs no more (`words-fit` of Subframe); other samples may tell anything
 unfoldable pub word : ℤ → ℤ
 word z = sat 32767 z

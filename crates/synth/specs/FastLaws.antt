@@ -17,7 +17,7 @@ use Rattle.basic_op.specs.Ops.{sat, sat16, sat32, l-add, l-mult, l-mac, l-shl, 
 use Rattle.basic_op.specs.Laws.{sat-id}
 use Rattle.synth.specs.Synth.{excite}
 
-sat-pos : (n a : ℕ) → sat n (pos a) ≡ pos (min a n)
+pub sat-pos : (n a : ℕ) → sat n (pos a) ≡ pos (min a n)
 unfolding sat
 sat-pos n a = go (ltb n a) refl
   where
@@ -25,7 +25,7 @@ sat-pos n a = go (ltb n a) refl
     go true e = ap pos (omega (arith, ltb-true n a e))
     go false e = ap pos (omega (arith, ltb-false n a e))
 
-sat-neg : (n a : ℕ) → sat n (negsuc a) ≡ negsuc (min a n)
+pub sat-neg : (n a : ℕ) → sat n (negsuc a) ≡ negsuc (min a n)
 unfolding sat
 sat-neg n a = go (ltb n a) refl
   where

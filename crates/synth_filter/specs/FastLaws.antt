@@ -36,7 +36,7 @@ product-size c v h = rw abs-mul (mul-le-mul (size-at-least c) h)
 pub excitation-size : (x c : ℤ) → natAbs x ≤ 32768 → natAbs (x *ℤ c) ≤ 32768 * size c
 excitation-size x c h = rw abs-mul (mul-le-mul h (size-at-least c))
 
-size-small : (c : ℤ) → size c ≤ 61439 → natAbs c ≤ 32767
+pub size-small : (c : ℤ) → size c ≤ 61439 → natAbs c ≤ 32767
 unfolding size
 size-small c h = go (ltb (natAbs c) 32768) refl h
   where
@@ -90,12 +90,12 @@ module _ (a : List ℤ) (x : ℤ) (y : List ℤ) (n : ℕ) (bounded : size-sum a
   term-size : (i : ℕ) → i < 10 → natAbs (term a y n i) ≤ size (at a (i + 1)) * 32768
   term-size i h = product-size (at a (i + 1)) (at y (n - (i + 1))) (past i (omega arith) h)
 
-  term-fits : (i : ℕ) → i < 10 → mag (pos 2 *ℤ term a y n i) ≤ 2147483647
+  pub term-fits : (i : ℕ) → i < 10 → mag (pos 2 *ℤ term a y n i) ≤ 2147483647
   term-fits i h =
       let p : natAbs (term a y n i) ≤ 32767 * 32768 = rw abs-mul (mul-le-mul (size-small (at a (i + 1)) (omega (arith, size-sum-one a 10 i h))) (past i (omega arith) h)) in
       mag-double (term a y n i) 2147483647 (omega arith)
 
-  all-sizes : (k : ℕ) → k ≤ 10 → natAbs (x *ℤ at a 0) + sizes (term a y n) k ≤ 32768 * size-sum a k
+  pub all-sizes : (k : ℕ) → k ≤ 10 → natAbs (x *ℤ at a 0) + sizes (term a y n) k ≤ 32768 * size-sum a k
   unfolding size-sum steps
   all-sizes zero h = omega (arith, excitation-size x (at a 0) word)
   all-sizes (suc k) h = omega (arith, all-sizes k (omega arith), term-size k h)

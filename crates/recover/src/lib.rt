@@ -1,0 +1,1 @@
+// No code: the far decoder's signal, read off its samples (specs/Recovery.antt).
