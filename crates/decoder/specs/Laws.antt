@@ -59,12 +59,12 @@ when : (x : Bool) (m n : ℕ) → 0 < n → cond x m n ≡ 0 → (x ≡ true) ×
 when true m n h q = (refl, q)
 when false m n h q = absurd (omega arith)
 
-both : (k m : ℕ) → first-of k m ≡ 0 → (k ≡ 0) × (m ≡ 0)
+pub both : (k m : ℕ) → first-of k m ≡ 0 → (k ≡ 0) × (m ≡ 0)
 unfolding first-of
 both zero m q = (refl, q)
 both (suc k) m q = absurd (omega (arith, rw eqb·suc-zero at q))
 
-room-is : (kind : ℕ) (payload : List ℕ) (room : ℕ) → input-check kind payload room ≡ 0 → room ≡ frame-length
+pub room-is : (kind : ℕ) (payload : List ℕ) (room : ℕ) → input-check kind payload room ≡ 0 → room ≡ frame-length
 unfolding input-check
 room-is kind payload room q =
     let p = when (known kind) (cond (eqb (length payload) (payload-length kind)) (cond (eqb room frame-length) 0 7) 6) 5 (omega arith) q .1 in

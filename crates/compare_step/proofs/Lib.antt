@@ -1,0 +1,2 @@
+-- Laws that the proofs of `compare_step` share.
+pub mod Parts
