@@ -2,7 +2,7 @@
 -- (01, "Operations and their refusals").
 use Prim.Native.Nat.{ℕ}
 use mathlib.Core.List.{List}
-use lib.IntN.{ℤ}
+use lib.IntN.{ℤ, pos}
 use Rattle.agree.specs.declared.Agreed.{Agreed}
 use Rattle.agree.specs.declared.Agreed.the-variants as agreed
 use Rattle.decoder.specs.Call as Frame
@@ -14,6 +14,8 @@ use Rattle.line.specs.declared.Read.the-variants as read
 use Rattle.line.specs.declared.Written.the-variants as written
 use Rattle.line.specs.Line as Line
 use Rattle.line.specs.Write as Write
+use Rattle.compare_step.specs.declared.Compared.the-variants as compared
+use Rattle.compare_step.specs.Compare as Compare
 
 -- ---- Frame: its number, the state block and the samples
 
@@ -63,3 +65,17 @@ lend-agree before agreed.Nothing = agreeing 0 0
 lend-agree before agreed.Parameters = agreeing 0 1
 lend-agree before agreed.Pulses = agreeing 0 2
 lend-agree before agreed.Samples = agreeing 0 3
+
+-- ---- the comparison with a far decoder: the number, the memory and the samples, and what the frame is
+
+pub data Comparing : Type 0 where
+  comparing : ℕ → List ℤ → List ℤ → ℕ → ℕ → ℤ → Comparing
+
+-- of class, number and rest as they were
+unfoldable pub lend-compare : ℕ → ℕ → ℤ → Compare.Answer → Comparing
+lend-compare class number rest (Compare.answer (compared.Refused n) m out) = comparing n m out class number rest
+lend-compare class number rest (Compare.answer compared.Concealed m out) = comparing 0 m out 0 0 (pos 0)
+lend-compare class number rest (Compare.answer (compared.Settling n) m out) = comparing 0 m out 1 n (pos 0)
+lend-compare class number rest (Compare.answer (compared.NotClean n) m out) = comparing 0 m out 2 n (pos 0)
+lend-compare class number rest (Compare.answer compared.Known m out) = comparing 0 m out 3 0 (pos 0)
+lend-compare class number rest (Compare.answer (compared.Differs d) m out) = comparing 0 m out 4 (d .sample) (d .rest)

@@ -1,4 +1,4 @@
-// The operations of 01 for other languages, the writing of a line and the agreement of two decoders: C functions over pointers and lengths, each the proved function of its crate.
+// The operations of 01 for other languages, the writing of a line, the agreement of two decoders and the comparison with a far one: C functions over pointers and lengths, each the proved function of its crate.
 // A slice is a pointer and then a length in elements. Each returns 0 or the number of its refusal, which leaves all lent memory as it
 // was; what it answers beside its number goes to lent memory. include/holdamek.h says the same for C.
 ghost use mathlib.Core.Path.{_≡_};
@@ -9,7 +9,8 @@ ghost use Rattle.agree.specs.Agree.{agree};
 ghost use Rattle.decoder.specs.Call.{frame};
 ghost use Rattle.line.specs.Line.{line};
 ghost use Rattle.line.specs.Write.{write};
-ghost use Rattle.holdamek.specs.Lent.{framed, lend-frame, lent, lend-line, lend-write, counting, count-call, agreeing, lend-agree};
+ghost use Rattle.compare_step.specs.Compare as comparison;
+ghost use Rattle.holdamek.specs.Lent.{comparing, lend-compare, framed, lend-frame, lent, lend-line, lend-write, counting, count-call, agreeing, lend-agree};
 
 #[no_mangle]
 pub extern "C" fn holdamek_table_check(t: &[i16]) -> u32
@@ -124,6 +125,66 @@ pub extern "C" fn holdamek_agree(a: &[i16], b: &[i16], agreement: &mut u32) -> u
         }
         agree::Agreed::Samples => {
             *agreement = 3;
+            0
+        }
+    }
+}
+
+// The memory of a comparison before its first frame.
+#[no_mangle]
+pub extern "C" fn holdamek_begin_compare(t: &[i16], m: &mut [i16]) -> u32
+    ensures { λ r. ⌜ comparison.begun r (now (m .exit)) ≡ comparison.begin (now (t .entry)) (now (m .entry)) ⌝ }
+{
+    compare_step::begin(t, m)
+}
+
+// What a frame is goes to `class`: 0 concealed, 1 settling, 2 not clean, 3 known, 4 differs; its number in the count, or the first sample that differs, to `number`; how much it differs, to `rest`.
+#[no_mangle]
+pub extern "C" fn holdamek_compare(
+    t: &[i16],
+    m: &mut [i16],
+    kind: u32,
+    payload: &[u8],
+    y: &[i16],
+    out: &mut [i16],
+    class: &mut u32,
+    number: &mut u32,
+    rest: &mut i32,
+) -> u32
+    ensures { λ r. ⌜ comparing r (now (m .exit)) (now (out .exit)) (now (class .exit)) (now (number .exit)) (now (rest .exit)) ≡ lend-compare (now (class .entry)) (now (number .entry)) (now (rest .entry)) (comparison.compare (now (t .entry)) (now (m .entry)) kind (now (payload .entry)) (now (y .entry)) (now (out .entry))) ⌝ }
+{
+    let answer = compare_step::compare(t, m, kind, payload, y, out);
+    match answer {
+        compare_step::Compared::Refused(n) => n,
+        compare_step::Compared::Concealed => {
+            *class = 0;
+            *number = 0;
+            *rest = 0;
+            0
+        }
+        compare_step::Compared::Settling(n) => {
+            *class = 1;
+            *number = n as u32;
+            *rest = 0;
+            0
+        }
+        compare_step::Compared::NotClean(n) => {
+            *class = 2;
+            *number = n as u32;
+            *rest = 0;
+            0
+        }
+        compare_step::Compared::Known => {
+            *class = 3;
+            *number = 0;
+            *rest = 0;
+            0
+        }
+        compare_step::Compared::Differs(d) => {
+            *class = 4;
+            *number = d.sample as u32;
+            let by = d.rest;
+            *rest = by;
             0
         }
     }
