@@ -1,5 +1,5 @@
-/* Holdamek: the six operations of a G.729 voice path, the writing of a line and the agreement of two decoders, as C functions (x86-64 Linux;
- * C99 or later, C++).
+/* Holdamek: the six operations of a G.729 voice path, the writing of a line, the agreement of two decoders and the comparison with a far one, as C
+ * functions (x86-64 Linux; C99 or later, C++).
  * `rt staticlib holdamek` makes target/staticlib/libholdamek.a:  cc -Iinclude program.c target/staticlib/libholdamek.a
  * Installed (`make install`):  cc program.c $(pkg-config --cflags --libs holdamek)
  *
@@ -12,7 +12,7 @@
  * another length is due, and is right for the payload of HOLDAMEK_NO_TRANSMISSION and HOLDAMEK_ERASED.
  *
  * What no function can notice, and the caller sees to: a pointer with a right length isn't NULL and points to that much memory of its type;
- * `kind`, `frames`, `lost`, `length` and `agreement` are never NULL; and what is lent for writing overlaps nothing else that is lent in the
+ * `kind`, `frames`, `lost`, `length`, `agreement`, `what`, `number` and `rest` are never NULL; and what is lent for writing overlaps nothing else that is lent in the
  * same call. */
 #ifndef HOLDAMEK_H
 #define HOLDAMEK_H
@@ -21,9 +21,9 @@
 #include <stdint.h>
 
 /* The version of header and library; the shared library has the first number in its name. */
-#define HOLDAMEK_VERSION "0.3.0"
+#define HOLDAMEK_VERSION "0.4.0"
 #define HOLDAMEK_VERSION_MAJOR 0
-#define HOLDAMEK_VERSION_MINOR 3
+#define HOLDAMEK_VERSION_MINOR 4
 #define HOLDAMEK_VERSION_PATCH 0
 
 #ifdef __cplusplus
@@ -33,6 +33,7 @@ extern "C" {
 enum holdamek_size {
     HOLDAMEK_TABLE_WORDS = 1880,      /* 16-bit words of a table block; in a file 3,760 bytes, low byte first */
     HOLDAMEK_STATE_WORDS = 234,       /* words of a state block */
+    HOLDAMEK_COMPARE_WORDS = 2203,    /* words of the memory of a comparison */
     HOLDAMEK_FRAME_SAMPLES = 80,      /* samples of a frame, 10 ms */
     HOLDAMEK_PAYLOAD_BYTES = 10,      /* bytes of a voice frame, and room for the payload of a line */
     HOLDAMEK_SID_BYTES = 2,           /* bytes of a SID frame */
@@ -58,16 +59,26 @@ enum holdamek_agreement {
     HOLDAMEK_AGREE_SAMPLES = 3        /* and the samples */
 };
 
+/* What a frame is in a comparison of a far decoder's samples with what decoders make of the same frames. A common voice frame is one that both decoders
+ * had; they are counted from one that passes parity. */
+enum holdamek_comparison {
+    HOLDAMEK_CONCEALED = 0,           /* no common voice frame: the count begins anew */
+    HOLDAMEK_SETTLING = 1,            /* the far decoder's state isn't known yet */
+    HOLDAMEK_NOT_CLEAN = 2,           /* nor does this frame help, though it is the sixth or a later one: a sample at full scale, or coefficients out of bound */
+    HOLDAMEK_KNOWN = 3,               /* the 80 samples are those of a decoder of these frames */
+    HOLDAMEK_DIFFERS = 4              /* no decoder of these frames, whatever its past, makes these samples */
+};
+
 /* The numbers that the functions return. */
 enum holdamek_refusal {
     HOLDAMEK_OK = 0,
     HOLDAMEK_TABLE_LENGTH = 1,        /* the table block isn't 1,880 words */
     HOLDAMEK_TABLE_DELAY = 2,         /* the initial delay in the table block is outside 19..144 */
-    HOLDAMEK_STATE_LENGTH = 3,        /* the state block isn't 234 words */
+    HOLDAMEK_STATE_LENGTH = 3,        /* the state block isn't 234 words; the memory of a comparison: not 2,203 */
     HOLDAMEK_STATE_VALUES = 4,        /* in the state block the predictor isn't 0 or 1, or the delay is outside 19..144 */
     HOLDAMEK_KIND_ABOVE_3 = 5,        /* there is no such kind of frame */
     HOLDAMEK_PAYLOAD_LENGTH = 6,      /* the payload isn't 10, 2, 0, 0 bytes for kinds 0 to 3; for fields: not ten bytes */
-    HOLDAMEK_OUTPUT_LENGTH = 7,       /* the output isn't 80 words; for the writing of a line: not 36 bytes */
+    HOLDAMEK_OUTPUT_LENGTH = 7,       /* the output isn't 80 words, or there aren't 80 far samples; for the writing of a line: not 36 bytes */
     HOLDAMEK_RECEIVER_LENGTH = 8,     /* the receiver of fields isn't 15 numbers */
     HOLDAMEK_LINE_FORM = 9,           /* the line isn't one of the four forms */
     HOLDAMEK_COUNT_LIMIT = 10,        /* a count is 360,000 or more already */
@@ -103,6 +114,17 @@ uint32_t holdamek_count(uint32_t kind, uint32_t *frames, uint32_t *lost);
 /* Writes to `agreement` how far two decoders with these state blocks agree from here on, one of enum holdamek_agreement. The blocks may be the
  * same memory. Refusals 3, 4, of either block; 4 only where both have 234 words. */
 uint32_t holdamek_agree(const int16_t *first, size_t first_length, const int16_t *second, size_t second_length, uint32_t *agreement);
+
+/* Writes the memory of a comparison before its first frame, all 2,203 words. Refusals 1, 2, 3. */
+uint32_t holdamek_begin_compare(const int16_t *tables, size_t tables_length, int16_t *memory, size_t memory_length);
+
+/* Compares the far decoder's samples of one frame. Lend it every frame of the call, in order, with the 80 samples that belong to it; a frame that was lost at
+ * either end is lent as HOLDAMEK_ERASED. Writes what the frame is to `what`, one of enum holdamek_comparison; to `number` its number in the count (settling, not clean) or
+ * the first sample, from 0, at which no decoder is left (differs), else 0; to `rest` by how much the far sample is more there than the computed one, else 0. Where
+ * the far decoder's state is known (known, differs) its computed samples go to `computed`, which stays as it was otherwise. Refusals 1 to 7. */
+uint32_t holdamek_compare(const int16_t *tables, size_t tables_length, int16_t *memory, size_t memory_length, uint32_t kind, const uint8_t *payload,
+                          size_t payload_length, const int16_t *far, size_t far_length, int16_t *computed, size_t computed_length, uint32_t *what,
+                          uint32_t *number, int32_t *rest);
 
 #ifdef __cplusplus
 }

@@ -320,6 +320,74 @@ static void of_agree(void)
     CHECK(kept() && other[HOLDAMEK_STATE_WORDS] == MARK);
 }
 
+static int16_t memory[HOLDAMEK_COMPARE_WORDS + 1], memory_before[HOLDAMEK_COMPARE_WORDS + 1], far[HOLDAMEK_FRAME_SAMPLES + 1];
+static uint32_t what = 77, number = 78;
+static int32_t rest = 79;
+
+static uint32_t compare(size_t m, uint32_t kind, size_t payload, size_t y, size_t out)
+{
+    return holdamek_compare(tables, HOLDAMEK_TABLE_WORDS, memory, m, kind, voice, payload, far, y, samples, out, &what, &number, &rest);
+}
+
+/* Every refusal in its order, with nothing written; then each number of samples and words but the right one. */
+static void of_compare_refusals(void)
+{
+    static const int16_t wrong[][2] = {{PREDICTOR, 2}, {PREDICTOR, -1}, {DELAY, 18}, {DELAY, 145}};
+    const size_t m = HOLDAMEK_COMPARE_WORDS, f = HOLDAMEK_FRAME_SAMPLES;
+    size_t n;
+
+    CHECK(holdamek_begin_compare(tables, 7, memory, 8) == HOLDAMEK_TABLE_LENGTH);
+    for (n = 0; n < m + 2; n++)
+        if (n != m)
+            check(holdamek_begin_compare(tables, HOLDAMEK_TABLE_WORDS, memory, n) == HOLDAMEK_STATE_LENGTH, "another memory is refused");
+    CHECK(holdamek_begin_compare(tables, HOLDAMEK_TABLE_WORDS, memory, m) == HOLDAMEK_OK && memory[m] == MARK);
+    keep();
+    for (n = 0; n < sizeof wrong / sizeof *wrong; n++) {
+        int16_t was = memory[wrong[n][0]];
+        memory[wrong[n][0]] = wrong[n][1];
+        memcpy(memory_before, memory, sizeof memory);
+        CHECK(compare(m, 4, 1, 2, 3) == HOLDAMEK_STATE_VALUES && compare(m - 1, 4, 1, 2, 3) == HOLDAMEK_STATE_LENGTH);
+        CHECK(memcmp(memory, memory_before, sizeof memory) == 0);
+        memory[wrong[n][0]] = was;
+    }
+    memcpy(memory_before, memory, sizeof memory);
+    CHECK(holdamek_compare(tables, 3, memory, 4, 5, voice, 6, far, 7, samples, 8, &what, &number, &rest) == HOLDAMEK_TABLE_LENGTH);
+    CHECK(compare(m, 4, 1, 2, 3) == HOLDAMEK_KIND_ABOVE_3 && compare(m, 0, 9, 2, 3) == HOLDAMEK_PAYLOAD_LENGTH);
+    for (n = 0; n < f + 2; n++)
+        if (n != f)
+            check(compare(m, 0, 10, n, f) == HOLDAMEK_OUTPUT_LENGTH && compare(m, 0, 10, f, n) == HOLDAMEK_OUTPUT_LENGTH, "another number of samples is refused");
+    CHECK(memcmp(memory, memory_before, sizeof memory) == 0 && kept() && what == 77 && number == 78 && rest == 79);
+}
+
+/* A voice frame again and again, with tables of zeros, whose filters are in bound: what a decoder from another past makes of it is known from the eighth on, a sample changed by 3 is found, and
+ * the next frame is known again. Then a loss, and with full-scale samples no frame that tells anything. */
+static void of_compare(void)
+{
+    static const uint32_t due[13] = {0, 1, 1, 1, 1, 1, 1, 1, 3, 3, 4, 3, 3};
+    const size_t m = HOLDAMEK_COMPARE_WORDS, f = HOLDAMEK_FRAME_SAMPLES, s = HOLDAMEK_STATE_WORDS;
+    uint32_t n;
+
+    memset(tables, 0, sizeof tables - sizeof *tables);
+    tables[DELAY_OF_TABLES] = 60;
+    CHECK(holdamek_begin_compare(tables, HOLDAMEK_TABLE_WORDS, memory, m) == HOLDAMEK_OK);
+    CHECK(holdamek_fresh_state(tables, HOLDAMEK_TABLE_WORDS, state, s) == HOLDAMEK_OK);
+    for (n = PAST; n < s; n++)
+        state[n] = (int16_t)(300 - n);
+    for (n = 1; n <= 12; n++) {
+        CHECK(holdamek_frame(tables, HOLDAMEK_TABLE_WORDS, state, s, 0, voice, 10, far, f) == HOLDAMEK_OK);
+        if (n == 10)
+            far[33] = (int16_t)(far[33] + 3);
+        CHECK(compare(m, 0, 10, f, f) == HOLDAMEK_OK && what == due[n]);
+        CHECK(what == HOLDAMEK_SETTLING ? number == n && rest == 0 : n == 10 ? number == 33 && rest == 3 : number == 0 && rest == 0);
+        CHECK(n < 8 || (memcmp(samples, far, f * sizeof *far) == 0) == (n != 10));
+    }
+    CHECK(compare(m, 3, 0, f, f) == HOLDAMEK_OK && what == HOLDAMEK_CONCEALED && number == 0 && rest == 0);
+    far[5] = 32767;
+    for (n = 1; n <= 9; n++)
+        CHECK(compare(m, 0, 10, f, f) == HOLDAMEK_OK && what == (n < 6 ? HOLDAMEK_SETTLING : HOLDAMEK_NOT_CLEAN) && number == n);
+    CHECK(memory[m] == MARK && samples[f] == MARK);
+}
+
 int main(void)
 {
     size_t n;
@@ -338,6 +406,9 @@ int main(void)
     of_count();
     of_agree_refusals();
     of_agree();
+    memory[HOLDAMEK_COMPARE_WORDS] = MARK;
+    of_compare_refusals();
+    of_compare();
     CHECK(tables[HOLDAMEK_TABLE_WORDS] == MARK);
     printf("border: %d checks, %d failed\n", checks, failed);
     return failed != 0;

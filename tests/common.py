@@ -5,7 +5,7 @@ ROOT = os.path.dirname(os.path.dirname(os.path.abspath(__file__)))
 RESUME = os.path.abspath(os.environ.get("RESUME", os.path.join(ROOT, "target/bin/resume")))
 DECODE = os.path.abspath(os.environ.get("DECODE", os.path.join(ROOT, "target/bin/decode")))
 TABLES = os.path.join(ROOT, "examples/tables.g729")
-VERSION = b"holdamek 0.3.0\n"
+VERSION = b"holdamek 0.4.0\n"
 
 
 def a_line(r):

@@ -43,6 +43,28 @@ mod c {
             b_len: usize,
             agreement: *mut u32,
         ) -> u32;
+        pub fn holdamek_begin_compare(
+            t: *const i16,
+            t_len: usize,
+            m: *mut i16,
+            m_len: usize,
+        ) -> u32;
+        pub fn holdamek_compare(
+            t: *const i16,
+            t_len: usize,
+            m: *mut i16,
+            m_len: usize,
+            kind: u32,
+            payload: *const u8,
+            payload_len: usize,
+            far: *const i16,
+            far_len: usize,
+            computed: *mut i16,
+            computed_len: usize,
+            what: *mut u32,
+            number: *mut u32,
+            rest: *mut i32,
+        ) -> u32;
     }
 }
 
@@ -113,4 +135,47 @@ pub fn count(kind: u32, frames: &mut u32, lost: &mut u32) -> u32 {
 pub fn agree(a: &[i16], b: &[i16], agreement: &mut u32) -> u32 {
     // SAFETY: see the head of this file.
     unsafe { c::holdamek_agree(a.as_ptr(), a.len(), b.as_ptr(), b.len(), agreement) }
+}
+
+pub fn begin_compare(t: &[i16], m: &mut [i16]) -> u32 {
+    // SAFETY: see the head of this file.
+    unsafe { c::holdamek_begin_compare(t.as_ptr(), t.len(), m.as_mut_ptr(), m.len()) }
+}
+
+/// What `compare` tells of a frame beside its number.
+#[derive(Default)]
+pub struct Told {
+    pub what: u32,
+    pub number: u32,
+    pub rest: i32,
+}
+
+pub fn compare(
+    t: &[i16],
+    m: &mut [i16],
+    kind: u32,
+    payload: &[u8],
+    far: &[i16],
+    computed: &mut [i16],
+    told: &mut Told,
+) -> u32 {
+    // SAFETY: see the head of this file.
+    unsafe {
+        c::holdamek_compare(
+            t.as_ptr(),
+            t.len(),
+            m.as_mut_ptr(),
+            m.len(),
+            kind,
+            payload.as_ptr(),
+            payload.len(),
+            far.as_ptr(),
+            far.len(),
+            computed.as_mut_ptr(),
+            computed.len(),
+            &mut told.what,
+            &mut told.number,
+            &mut told.rest,
+        )
+    }
 }

@@ -3,7 +3,8 @@
 //! A [`TableBlock`] holds your licensed tables, checked. A [`Decoder`] takes one [`Frame`] after another and gives the 80
 //! samples of each before the postfilter. Its [`StateBlock`] can be saved between any two frames and resumed later, here or on
 //! another machine. [`Frame::parse`] reads a line of a call, [`Frame::write`] writes it, and [`Counts`] counts its frames.
-//! [`StateBlock::agreement`] tells how far two decoders agree from here on.
+//! [`StateBlock::agreement`] tells how far two decoders agree from here on. A [`Comparison`] tells of a far decoder's samples
+//! whether a decoder of the same frames makes them, whatever its past.
 //!
 //! ```
 //! use holdamek::{Decoder, Frame, TableBlock};
@@ -22,8 +23,11 @@
 
 #[allow(unsafe_code)]
 mod ffi;
+
+mod comparison;
 mod refusal;
 
+pub use comparison::{Compared, Comparison, COMPARE_WORDS};
 pub use refusal::Refusal;
 
 /// Words of a table block.

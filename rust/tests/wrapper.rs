@@ -1,7 +1,10 @@
-//! The wrapper over the example files: samples, saving and resuming, the agreement of two decoders, every refusal that its types leave.
+//! The wrapper over the example files: samples, saving and resuming, the agreement of two decoders, the comparison with a far one, every refusal that its types leave.
 
-use holdamek::{fields, Agreement, Counts, Decoder, Frame, Refusal, StateBlock, TableBlock};
-use holdamek::{LONGEST_LINE, MOST_FRAMES, STATE_WORDS, TABLE_WORDS};
+use holdamek::{
+    fields, Agreement, Compared, Comparison, Counts, Decoder, Frame, Refusal, StateBlock,
+    TableBlock,
+};
+use holdamek::{COMPARE_WORDS, LONGEST_LINE, MOST_FRAMES, STATE_WORDS, TABLE_WORDS};
 
 const TABLES: &[u8] = include_bytes!("../../examples/tables.g729");
 const CALL: &[u8] = include_bytes!("../../examples/example.call");
@@ -278,4 +281,94 @@ fn threads_share_tables() {
             });
         }
     });
+}
+
+/// The far end's samples of the example's frames, decoded from another past.
+fn far_samples(tables: &TableBlock) -> Vec<[i16; 80]> {
+    let fresh = StateBlock::fresh(tables).unwrap();
+    let mut words = *fresh.words();
+    for (n, word) in words.iter_mut().enumerate().skip(70) {
+        *word = (n as i16 * 37) % 301 - 150;
+    }
+    let mut far = Decoder::resume(tables, StateBlock::from_words(&words).unwrap());
+    call().iter().map(|f| far.decode(f).unwrap()).collect()
+}
+
+#[test]
+fn a_far_decoder_is_known_whatever_its_past() {
+    let tables = tables();
+    let far = far_samples(&tables);
+    let mut comparison = Comparison::new(&tables).unwrap();
+    let (mut known, mut run) = (0, 0);
+    for (frame, samples) in call().iter().zip(&far) {
+        let mut resumed = Comparison::resume(&tables, *comparison.words());
+        let told = comparison.compare(frame, samples).unwrap();
+        assert_eq!(resumed.compare(frame, samples), Ok(told));
+        assert_eq!(resumed.words(), comparison.words());
+        match told {
+            Compared::Concealed => {
+                assert_ne!(frame.kind(), 0);
+                run = 0;
+            }
+            Compared::Settling(n) => {
+                run = n;
+            }
+            Compared::NotClean(n) => {
+                run = n;
+            }
+            Compared::Known => {
+                assert!(run >= 7);
+                known += 1;
+            }
+            Compared::Differs { .. } => panic!("a sound line is blamed"),
+        }
+    }
+    assert!(known > 0);
+}
+
+#[test]
+fn a_changed_sample_is_found_where_it_is() {
+    let tables = tables();
+    let call = call();
+    let far = far_samples(&tables);
+    let mut sound = Comparison::new(&tables).unwrap();
+    let (mut found, mut before) = (0, Compared::Concealed);
+    for (at, (frame, samples)) in call.iter().zip(&far).enumerate() {
+        let mut line = sound.clone();
+        let confirmed = before == Compared::Known;
+        before = sound.compare(frame, samples).unwrap();
+        if before != Compared::Known {
+            continue;
+        }
+        let mut changed = *samples;
+        changed[at % 80] ^= 4;
+        let rest = i32::from(changed[at % 80]) - i32::from(samples[at % 80]);
+        let due = Compared::Differs {
+            sample: at % 80,
+            rest,
+            computed: *samples,
+        };
+        assert_eq!(line.compare(frame, &changed), Ok(due));
+        found += 1;
+        // candidates that no frame has confirmed are dropped; others go on, so that the next frame is known again
+        if let (true, Some(next), Some(samples)) = (confirmed, call.get(at + 1), far.get(at + 1)) {
+            let due = match next.kind() {
+                0 => Compared::Known,
+                _ => Compared::Concealed,
+            };
+            assert_eq!(line.compare(next, samples), Ok(due));
+        }
+    }
+    assert!(found > 0);
+}
+
+#[test]
+fn a_comparison_of_wrong_words_is_refused() {
+    let tables = tables();
+    let mut comparison = Comparison::resume(&tables, [0; COMPARE_WORDS]);
+    assert_eq!(
+        comparison.compare(&Frame::Erased, &[1; 80]),
+        Err(Refusal::StateValues)
+    );
+    assert_eq!(comparison.words(), &[0; COMPARE_WORDS]);
 }

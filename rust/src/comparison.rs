@@ -1,0 +1,87 @@
+//! The comparison of a far decoder's samples with what decoders make of the same frames.
+
+use crate::{ffi, Frame, Refusal, Samples, TableBlock, FRAME_SAMPLES};
+
+/// Words of the memory of a comparison.
+pub const COMPARE_WORDS: usize = 2203;
+
+/// What a frame is in a comparison. A common voice frame is one that both decoders had; they are counted from one that passes
+/// parity.
+#[derive(Debug, Clone, Copy, PartialEq, Eq)]
+pub enum Compared {
+    /// No common voice frame: the count begins anew.
+    Concealed,
+    /// The far decoder's state isn't known yet. The number of the frame in the count.
+    Settling(u32),
+    /// Nor does this frame help, though it is the sixth or a later one: a sample is at full scale, or coefficients are out of bound.
+    NotClean(u32),
+    /// The 80 samples are those of a decoder of these frames.
+    Known,
+    /// No decoder of these frames, whatever its past, makes these samples.
+    Differs {
+        /// The first sample, from 0, at which no decoder is left.
+        sample: usize,
+        /// By how much the far sample is more there than the computed one.
+        rest: i32,
+        /// The samples of the decoder that was left up to there.
+        computed: Samples,
+    },
+}
+
+/// A comparison: tables, and what is kept between two frames.
+#[derive(Debug, Clone)]
+pub struct Comparison<'t> {
+    tables: &'t TableBlock,
+    memory: [i16; COMPARE_WORDS],
+}
+
+impl<'t> Comparison<'t> {
+    /// A comparison before its first frame.
+    ///
+    /// # Errors
+    /// None where the tables were accepted, which a [`TableBlock`] always is.
+    pub fn new(tables: &'t TableBlock) -> Result<Self, Refusal> {
+        let mut memory = [0; COMPARE_WORDS];
+        Refusal::check(ffi::begin_compare(tables.words(), &mut memory))?;
+        Ok(Comparison { tables, memory })
+    }
+
+    /// A comparison that goes on from saved words.
+    pub fn resume(tables: &'t TableBlock, memory: [i16; COMPARE_WORDS]) -> Self {
+        Comparison { tables, memory }
+    }
+
+    /// What the next frame is, with the far samples that belong to it. A frame that was lost at either end is [`Frame::Erased`].
+    ///
+    /// # Errors
+    /// [`Refusal::StateValues`], where the comparison was resumed from words that aren't accepted.
+    pub fn compare(&mut self, frame: &Frame, far: &Samples) -> Result<Compared, Refusal> {
+        let mut computed = [0; FRAME_SAMPLES];
+        let mut told = ffi::Told::default();
+        Refusal::check(ffi::compare(
+            self.tables.words(),
+            &mut self.memory,
+            frame.kind(),
+            frame.payload(),
+            far,
+            &mut computed,
+            &mut told,
+        ))?;
+        Ok(match told.what {
+            0 => Compared::Concealed,
+            1 => Compared::Settling(told.number),
+            2 => Compared::NotClean(told.number),
+            3 => Compared::Known,
+            _ => Compared::Differs {
+                sample: told.number as usize,
+                rest: told.rest,
+                computed,
+            },
+        })
+    }
+
+    /// Its words, to be saved.
+    pub fn words(&self) -> &[i16; COMPARE_WORDS] {
+        &self.memory
+    }
+}
