@@ -359,15 +359,21 @@ static void of_compare_refusals(void)
     CHECK(memcmp(memory, memory_before, sizeof memory) == 0 && kept() && what == 77 && number == 78 && rest == 79);
 }
 
-/* A voice frame again and again, with tables of zeros, whose filters are in bound: what a decoder from another past makes of it is known from the eighth on, a sample changed by 3 is found, and
+/* A voice frame again and again, with tables whose filters are in bound: what a decoder from another past makes of it is known from the eighth on, a sample changed by 3 is found, and
  * the next frame is known again. Then a loss, and with full-scale samples no frame that tells anything. */
 static void of_compare(void)
 {
+    static const int16_t scalars[4] = {20861, 40, 25681, 321}; /* from frequencies to LSP; their limits and least distance */
     static const uint32_t due[13] = {0, 1, 1, 1, 1, 1, 1, 1, 3, 3, 4, 3, 3};
     const size_t m = HOLDAMEK_COMPARE_WORDS, f = HOLDAMEK_FRAME_SAMPLES, s = HOLDAMEK_STATE_WORDS;
     uint32_t n;
 
     memset(tables, 0, sizeof tables - sizeof *tables);
+    for (n = 0; n < 1280; n++)
+        tables[n] = (int16_t)(2339 * (n % 10 + 1)); /* line spectral frequencies at even distances, so that the filter is flat */
+    for (n = 1680; n < 1700; n++)
+        tables[n] = 32767;
+    memcpy(tables + 1876, scalars, sizeof scalars);
     tables[DELAY_OF_TABLES] = 60;
     CHECK(holdamek_begin_compare(tables, HOLDAMEK_TABLE_WORDS, memory, m) == HOLDAMEK_OK);
     CHECK(holdamek_fresh_state(tables, HOLDAMEK_TABLE_WORDS, state, s) == HOLDAMEK_OK);
