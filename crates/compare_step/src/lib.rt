@@ -10,7 +10,7 @@ ghost use Rattle.block.specs.Places.{frame-length};
 ghost use Rattle.inverse.specs.Inverse.{frame-words, word};
 ghost use Rattle.state.specs.State.{write-params};
 ghost use Rattle.compare_step.specs.Slots.{candidates, only-fitting, best, computed};
-ghost use Rattle.compare_step.specs.Compare.{front-length, compare-length, left-of, voice-step, step, read-far, far-words, no-far, next-count, tells, next-clean, taken, known, slots-tried, slots-left, found, first-difference, look, breaks, next-status, voice-far, class, concealed-far, memory-check, refusal, Answer, stepped, compare, Begun, begin};
+ghost use Rattle.compare_step.specs.Compare.{front-length, compare-length, left-of, voice-step, step, read-far, far-words, no-far, next-count, tells, next-clean, taken, known, slots-tried, slots-left, found, first-difference, look, breaks, next-status, voice-far, class, memory-check, refusal, Answer, stepped, compare, Begun, begin};
 
 mod slots;
 
@@ -236,16 +236,16 @@ fn next_words(v: Decoded, y: &[i16; FRAME_LENGTH], h: Far) -> [i16; WINDOW_LENGT
     out
 }
 
-// Of frame n where the far samples are a candidate's: no window is needed.
-fn found_far(n: i16, y: &[i16; FRAME_LENGTH], h: Far) -> Far
-    ensures { λ r. ⌜ r ≡ record { count = n; clean = pos 0; status = pos 1; tail = drop 70 (now (y .entry)); words = h .words } ⌝ }
+// Of frame n, with no window: where the far samples are a candidate's none is needed, and behind a concealed frame there is none.
+fn plain_far(n: i16, status: i16, y: &[i16; FRAME_LENGTH], h: Far) -> Far
+    ensures { λ r. ⌜ r ≡ record { count = n; clean = pos 0; status = status; tail = drop 70 (now (y .entry)); words = h .words } ⌝ }
 {
     let tail = block::words10(y, 70);
     let words = h.words;
     Far {
         count: n,
         clean: 0,
-        status: 1,
+        status,
         tail,
         words,
     }
@@ -265,7 +265,7 @@ fn voice_far(n: i16, v: Decoded, y: &[i16; FRAME_LENGTH], told: bool, h: Far, x:
     ensures { λ r. ⌜ r ≡ voice-far n v (now (y .entry)) told h x ⌝ }
 {
     if x.found {
-        return found_far(n, y, h);
+        return plain_far(n, 1, y, h);
     }
     let tail = block::words10(y, 70);
     let words = next_words(v, y, h);
@@ -294,20 +294,6 @@ fn class(n: i16, told: bool, x: Seen) -> Compared
         return Compared::NotClean(pitch::nat(n));
     }
     Compared::Settling(pitch::nat(n))
-}
-
-fn concealed_far(y: &[i16; FRAME_LENGTH], h: Far) -> Far
-    ensures { λ r. ⌜ r ≡ concealed-far (now (y .entry)) h ⌝ }
-{
-    let tail = block::words10(y, 70);
-    let words = h.words;
-    Far {
-        count: 0,
-        clean: 0,
-        status: 0,
-        tail,
-        words,
-    }
 }
 
 // The samples of the best candidate, where there is one.
@@ -388,7 +374,7 @@ fn step(
     match d {
         Decision::Voice(f) => voice_step(t, f, v, y, h, s, out),
         Decision::Concealment => {
-            let far = concealed_far(y, h);
+            let far = plain_far(0, 0, y, h);
             let class = Compared::Concealed;
             Left { far, class }
         }

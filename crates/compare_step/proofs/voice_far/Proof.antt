@@ -12,7 +12,7 @@ use Rattle.compare_step.proofs.voice_far.Tie as tie
 
 returns : tie.Need-returns
 unfolding voice-far next-status
-returns c = c .found-far .ensures ∙ rw (toZ-ofZ (c .before .before .fits .n), c .before .if1 .taken)
+returns c = c .plain-far .ensures ∙ rw (toZ-ofZ (c .before .before .fits .n), c .before .if1 .taken)
 
 returns-2 : tie.Need-returns-2
 unfolding voice-far
