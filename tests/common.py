@@ -1,8 +1,9 @@
-# What the tests of the programs share: made-up calls, the two programs, a folder to work in, and the counts of what holds. No trained table value: the tables are the made-up ones of examples.
+# What the tests of the programs share: made-up calls, the programs, a folder to work in, and the counts of what holds. No trained table value: the tables are the made-up ones of examples.
 import atexit, os, random, shutil, stat, subprocess, sys, tempfile
 
 ROOT = os.path.dirname(os.path.dirname(os.path.abspath(__file__)))
 RESUME = os.path.abspath(os.environ.get("RESUME", os.path.join(ROOT, "target/bin/resume")))
+COMPARE = os.path.abspath(os.environ.get("COMPARE", os.path.join(ROOT, "target/bin/compare")))
 DECODE = os.path.abspath(os.environ.get("DECODE", os.path.join(ROOT, "target/bin/decode")))
 TABLES = os.path.join(ROOT, "examples/tables.g729")
 VERSION = b"holdamek 0.4.0\n"

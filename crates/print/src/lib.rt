@@ -16,7 +16,7 @@ pub const FORM_ROOM: usize = 46;
 
 // A function that takes a place `from` writes there, and answers the place behind what it wrote.
 
-fn put(part: &[u8], from: usize, out: &mut [u8]) -> usize
+pub fn put(part: &[u8], from: usize, out: &mut [u8]) -> usize
     requires { ⌜ from + length (now part) ≤ length (now out) ⌝ }
     ensures { λ r. ⌜ Put (now (part .entry)) from (now (out .entry)) r (now (out .exit)) ⌝ }
 {
@@ -73,7 +73,7 @@ fn number(n: u32, from: usize, out: &mut [u8]) -> usize
 }
 
 // A number behind its label.
-fn figure(label: &[u8], n: u32, from: usize, out: &mut [u8]) -> usize
+pub fn figure(label: &[u8], n: u32, from: usize, out: &mut [u8]) -> usize
     requires { ⌜ from + length (now label) + 10 ≤ length (now out) ⌝ }
     ensures { λ r. ⌜ (r ≤ from + length (now (label .entry)) + 10) × Put (figure (now (label .entry)) n) from (now (out .entry)) r (now (out .exit)) ⌝ }
 {

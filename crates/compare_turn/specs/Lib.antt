@@ -1,0 +1,3 @@
+-- The definitions that the contracts of `compare_turn` cite, and their laws.
+pub mod Turn
+pub mod Laws

@@ -1,0 +1,4 @@
+-- The definitions that the contracts of `far` cite, and their laws.
+pub mod Far
+pub mod Wav
+pub mod Laws

@@ -1,0 +1,4 @@
+-- The definitions that the contracts of `report` cite, and their laws.
+pub mod Report
+pub mod Forms
+pub mod Laws
