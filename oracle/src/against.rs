@@ -5,6 +5,7 @@
 #![allow(dead_code)]
 
 mod blocks;
+mod far;
 mod ffi;
 mod generate;
 mod measure;
@@ -13,6 +14,7 @@ mod real;
 mod rng;
 mod speech;
 mod text;
+mod trials;
 
 use g729::bitstream::SpeechParams;
 use g729::{FRAME_SAMPLES, harness, stages};
@@ -22,14 +24,27 @@ use std::process::ExitCode;
 use text::FrameLine;
 
 const USAGE: &str = "usage: g729-compare [--seed N] [--frames N] [--rounds N]
+       g729-compare far SEED FRAMES
   --seed N     of all that is drawn (1)
   --frames N   how many frames are compared, at least (200000)
   --rounds N   how often each class is timed (15); 0 leaves the measurement out";
 
 /// Frames of one compared call.
 const CALL: usize = 40;
+
 fn main() -> ExitCode {
     let args: Vec<String> = std::env::args().skip(1).collect();
+    if let [far, seed, frames] = args.as_slice()
+        && let ("far", Ok(seed), Ok(frames)) = (far.as_str(), seed.parse(), frames.parse())
+    {
+        let rng = &mut Rng::new(seed);
+        let block = generate::tables(rng, "real").expect("a kind of tables");
+        let calls = frames / 100;
+        let refused = proved::refused_comparisons(rng, &block, calls);
+        println!("refusals: {calls} calls, wrong {refused}\n");
+        let wrong = refused + trials::run(seed, frames, Some(proved::comparison));
+        return ExitCode::from(u8::from(wrong > 0));
+    }
     let (mut seed, mut count, mut rounds) = (1, 200_000, 15);
     for option in args.chunks(2) {
         let value = option.get(1).and_then(|v| v.parse::<u64>().ok());

@@ -2,6 +2,8 @@
 
 mod blocks;
 mod compare;
+mod far;
+mod far_list;
 mod generate;
 mod ops;
 mod program;
@@ -12,6 +14,7 @@ mod rng;
 mod selftest;
 mod speech;
 mod text;
+mod trials;
 
 use g729::bitstream::SpeechParams;
 use g729::harness::{self, StateBlock, TableBlock};
@@ -39,7 +42,10 @@ const USAGE: &str = "usage:
   g729-oracle stages TABLES [--state FILE]
   g729-oracle decode TABLES [--state FILE] [--save FILE] [--whole]
   g729-oracle bench TABLES CALL N
-  g729-oracle selftest SEED FRAMES";
+  g729-oracle selftest SEED FRAMES
+  g729-oracle far SEED FRAMES
+  g729-oracle far-list [SEED CASES FRAMES]
+  g729-oracle far-answers";
 
 /// Bytes that are read or written at once.
 const BUFFER: usize = 1 << 20;
@@ -98,6 +104,25 @@ fn dispatch(args: &[&str]) -> Outcome {
         }
         ["selftest", seed, frames] => {
             selftest::run(number(seed)?, number(frames)?).map(|()| ExitCode::SUCCESS)
+        }
+        ["far-list"] => {
+            let mut out = output();
+            far_list::list(&mut out)?;
+            finish(out)
+        }
+        ["far-list", seed, cases, frames] => {
+            let mut out = output();
+            far_list::random(&mut out, number(seed)?, number(cases)?, number(frames)?)?;
+            finish(out)
+        }
+        ["far-answers"] => {
+            let mut out = output();
+            far_list::answers(&mut input(), &mut out)?;
+            finish(out)
+        }
+        ["far", seed, frames] => {
+            let wrong = trials::run(number(seed)?, number(frames)?, None);
+            Ok(ExitCode::from(u8::from(wrong > 0)))
         }
         _ => Err(USAGE.to_string()),
     }

@@ -7,7 +7,7 @@ use crate::text::FrameLine;
 use g729::adaptive::parity_ok;
 use g729::{Decoder, FRAME_SAMPLES, Tables, stages};
 
-pub const SPEECH_KINDS: [&str; 4] = ["quiet", "ordinary", "concealed", "losses"];
+pub const SPEECH_KINDS: [&str; 6] = ["quiet", "ordinary", "high", "deep", "concealed", "losses"];
 
 /// The payloads of which one is taken.
 const DRAWN: usize = 12;
@@ -36,7 +36,7 @@ pub fn call(rng: &mut Rng, tables: &Tables, kind: &str, frames: usize) -> Option
         if syllable.left < 0 {
             syllable = next_syllable(rng, kind, syllable.delay);
         }
-        syllable.delay = (syllable.delay + rng.range(-4, 4)).clamp(30, 190);
+        syllable.delay = within(kind, syllable.delay + rng.range(-4, 4));
         lost = match kind {
             "concealed" => (n % 10) as i32,
             "losses" if lost == 0 && rng.chance(6) => rng.range(1, 3),
@@ -53,18 +53,27 @@ pub fn call(rng: &mut Rng, tables: &Tables, kind: &str, frames: usize) -> Option
     Some((0..frames).map(next).collect())
 }
 
+/// The number of a delay, 30 samples to 83 of them, or in a deep voice 88 to 138.
+fn within(kind: &str, delay: i32) -> i32 {
+    match kind {
+        "deep" => delay.clamp(200, 250),
+        _ => delay.clamp(30, 190),
+    }
+}
+
 /// A syllable, or the pause behind one.
 fn next_syllable(rng: &mut Rng, kind: &str, delay: i32) -> Syllable {
     let pause = rng.chance(35);
     let (low, high) = match kind {
         _ if pause || kind == "quiet" => (20, 60),
+        "high" | "deep" => (5000, 12000),
         _ => (500, 4000),
     };
     Syllable {
         left: rng.range(8, 30),
         level: f64::from(rng.range(low, high)),
         spectrum: rng.below(128) as u16,
-        delay: (delay + rng.range(-20, 20)).clamp(30, 190),
+        delay: within(kind, delay + rng.range(-20, 20)),
     }
 }
 

@@ -57,7 +57,7 @@ impl<'t> Comparison<'t> {
     /// [`Refusal::StateValues`], where the comparison was resumed from words that aren't accepted.
     pub fn compare(&mut self, frame: &Frame, far: &Samples) -> Result<Compared, Refusal> {
         let mut computed = [0; FRAME_SAMPLES];
-        let mut told = ffi::Told::default();
+        let (mut what, mut number, mut rest) = (0, 0, 0);
         Refusal::check(ffi::compare(
             self.tables.words(),
             &mut self.memory,
@@ -65,16 +65,16 @@ impl<'t> Comparison<'t> {
             frame.payload(),
             far,
             &mut computed,
-            &mut told,
+            (&mut what, &mut number, &mut rest),
         ))?;
-        Ok(match told.what {
+        Ok(match what {
             0 => Compared::Concealed,
-            1 => Compared::Settling(told.number),
-            2 => Compared::NotClean(told.number),
+            1 => Compared::Settling(number),
+            2 => Compared::NotClean(number),
             3 => Compared::Known,
             _ => Compared::Differs {
-                sample: told.number as usize,
-                rest: told.rest,
+                sample: number as usize,
+                rest,
                 computed,
             },
         })

@@ -142,14 +142,7 @@ pub fn begin_compare(t: &[i16], m: &mut [i16]) -> u32 {
     unsafe { c::holdamek_begin_compare(t.as_ptr(), t.len(), m.as_mut_ptr(), m.len()) }
 }
 
-/// What `compare` tells of a frame beside its number.
-#[derive(Default)]
-pub struct Told {
-    pub what: u32,
-    pub number: u32,
-    pub rest: i32,
-}
-
+/// The last is what the frame is, its number and the rest.
 pub fn compare(
     t: &[i16],
     m: &mut [i16],
@@ -157,7 +150,7 @@ pub fn compare(
     payload: &[u8],
     far: &[i16],
     computed: &mut [i16],
-    told: &mut Told,
+    answer: (&mut u32, &mut u32, &mut i32),
 ) -> u32 {
     // SAFETY: see the head of this file.
     unsafe {
@@ -173,9 +166,9 @@ pub fn compare(
             far.len(),
             computed.as_mut_ptr(),
             computed.len(),
-            &mut told.what,
-            &mut told.number,
-            &mut told.rest,
+            answer.0,
+            answer.1,
+            answer.2,
         )
     }
 }
