@@ -6,7 +6,7 @@
  * Each function returns 0 or the number of the first refusal that applies, in the order of its list below. A refusal leaves all lent
  * memory as it was. Nothing is allocated, no function keeps anything between two calls, and none waits or calls the system, so
  * threads may call them at the same time, on one table block too, as long as nobody else touches the memory lent for writing. 16 KiB
- * of stack are enough (5.3 KB were measured).
+ * of stack are enough (5.3 KB were measured for holdamek_frame).
  *
  * A length counts elements, not bytes. A wrong length is refused before the memory is touched; so NULL with length 0 is refused where
  * another length is due, and is right for the payload of HOLDAMEK_NO_TRANSMISSION and HOLDAMEK_ERASED.
@@ -62,11 +62,11 @@ enum holdamek_agreement {
 /* What a frame is in a comparison of a far decoder's samples with what decoders make of the same frames. A common voice frame is one that both decoders
  * had; they are counted from one that passes parity. */
 enum holdamek_comparison {
-    HOLDAMEK_CONCEALED = 0,           /* no common voice frame: the count begins anew */
-    HOLDAMEK_SETTLING = 1,            /* the far decoder's state isn't known yet */
-    HOLDAMEK_NOT_CLEAN = 2,           /* nor does this frame help, though it is the sixth or a later one: a sample at full scale, or coefficients out of bound */
-    HOLDAMEK_KNOWN = 3,               /* the 80 samples are those of a decoder of these frames */
-    HOLDAMEK_DIFFERS = 4              /* no decoder of these frames, whatever its past, makes these samples */
+    HOLDAMEK_CONCEALED = 0,           /* kind 1, 2 or 3: not compared, and the count begins anew */
+    HOLDAMEK_SETTLING = 1,            /* no state of the far decoder is computed yet, or none any more: the last window's did not fit */
+    HOLDAMEK_NOT_CLEAN = 2,           /* the same, and this frame can't be part of a window though it is the sixth or a later one: a sample is -32768 or 32767, or coefficients are out of bound */
+    HOLDAMEK_KNOWN = 3,               /* a decoder of these frames, in a state that the samples before tell, makes these 80 samples */
+    HOLDAMEK_DIFFERS = 4              /* the samples since the last concealed frame (or the first frame), up to and with this frame's, are not those of any decoder of these frames, whatever its past */
 };
 
 /* The numbers that the functions return. */
@@ -75,7 +75,7 @@ enum holdamek_refusal {
     HOLDAMEK_TABLE_LENGTH = 1,        /* the table block isn't 1,880 words */
     HOLDAMEK_TABLE_DELAY = 2,         /* the initial delay in the table block is outside 19..144 */
     HOLDAMEK_STATE_LENGTH = 3,        /* the state block isn't 234 words; the memory of a comparison: not 2,203 */
-    HOLDAMEK_STATE_VALUES = 4,        /* in the state block the predictor isn't 0 or 1, or the delay is outside 19..144 */
+    HOLDAMEK_STATE_VALUES = 4,        /* in the state block, or in the memory of a comparison, the predictor isn't 0 or 1, or the delay is outside 19..144 */
     HOLDAMEK_KIND_ABOVE_3 = 5,        /* there is no such kind of frame */
     HOLDAMEK_PAYLOAD_LENGTH = 6,      /* the payload isn't 10, 2, 0, 0 bytes for kinds 0 to 3; for fields: not ten bytes */
     HOLDAMEK_OUTPUT_LENGTH = 7,       /* the output isn't 80 words, or there aren't 80 far samples; for the writing of a line: not 36 bytes */
@@ -118,10 +118,13 @@ uint32_t holdamek_agree(const int16_t *first, size_t first_length, const int16_t
 /* Writes the memory of a comparison before its first frame, all 2,203 words. Refusals 1, 2, 3. */
 uint32_t holdamek_begin_compare(const int16_t *tables, size_t tables_length, int16_t *memory, size_t memory_length);
 
-/* Compares the far decoder's samples of one frame. Lend it every frame of the call, in order, with the 80 samples that belong to it; a frame that was lost at
- * either end is lent as HOLDAMEK_ERASED. Writes what the frame is to `what`, one of enum holdamek_comparison; to `number` its number in the count (settling, not clean) or
- * the first sample, from 0, at which no decoder is left (differs), else 0; to `rest` by how much the far sample is more there than the computed one, else 0. Where
- * the far decoder's state is known (known, differs) its computed samples go to `computed`, which stays as it was otherwise. Refusals 1 to 7. */
+/* Compares the far decoder's samples of one frame, on memory that holdamek_begin_compare wrote and earlier calls left, always with the same tables. It may begin
+ * at any frame of a call; from there lend it every frame, in order, with the 80 samples that belong to it. SID and no-transmission frames are lent as they are; a
+ * frame that was lost at either end is lent as HOLDAMEK_ERASED, with payload NULL and length 0. For these three kinds `far` is 80 samples too, but any will do.
+ * Writes to `what` one of enum holdamek_comparison; to `number`, for settling and not clean, the frame's number in the count (0: no frame has passed parity yet; it
+ * stays at 32767), for differs the first sample, from 0, at which no computed decoder is left, else 0; to `rest`, for differs, the far sample minus the computed one
+ * there, else 0. For known and differs the computed samples are written to `computed`, which otherwise stays as it was. To save a comparison keep the 2,203 words.
+ * Refusals 1 to 7. */
 uint32_t holdamek_compare(const int16_t *tables, size_t tables_length, int16_t *memory, size_t memory_length, uint32_t kind, const uint8_t *payload,
                           size_t payload_length, const int16_t *far, size_t far_length, int16_t *computed, size_t computed_length, uint32_t *what,
                           uint32_t *number, int32_t *rest);

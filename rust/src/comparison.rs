@@ -9,21 +9,24 @@ pub const COMPARE_WORDS: usize = 2203;
 /// parity.
 #[derive(Debug, Clone, Copy, PartialEq, Eq)]
 pub enum Compared {
-    /// No common voice frame: the count begins anew.
+    /// A frame that isn't voice: it is not compared, and the count begins anew.
     Concealed,
-    /// The far decoder's state isn't known yet. The number of the frame in the count.
+    /// No state of the far decoder is computed yet, or none any more: the last window's did not fit. The frame's number in the
+    /// count, 0 while none has passed parity.
     Settling(u32),
-    /// Nor does this frame help, though it is the sixth or a later one: a sample is at full scale, or coefficients are out of bound.
+    /// The same, and this frame can't be part of a window though it is the sixth or a later one: a sample is at full scale, or
+    /// coefficients are out of bound.
     NotClean(u32),
-    /// The 80 samples are those of a decoder of these frames.
+    /// A decoder of these frames, in a state that the samples before tell, makes these 80 samples.
     Known,
-    /// No decoder of these frames, whatever its past, makes these samples.
+    /// The samples since the last frame that isn't voice (or the first frame), up to and with this frame's, are not those of any
+    /// decoder of these frames, whatever its past.
     Differs {
-        /// The first sample, from 0, at which no decoder is left.
+        /// The first sample, from 0, at which no computed decoder is left.
         sample: usize,
-        /// By how much the far sample is more there than the computed one.
+        /// The far sample there minus the computed one.
         rest: i32,
-        /// The samples of the decoder that was left up to there.
+        /// The samples of the computed decoder that agreed longest.
         computed: Samples,
     },
 }

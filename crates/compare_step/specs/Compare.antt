@@ -38,7 +38,7 @@ front-length = 243
 abbrev pub compare-length : ℕ
 compare-length = 2203
 
--- the words told by the last two frames
+-- how many words two frames tell
 abbrev pub window-length : ℕ
 window-length = 160
 
@@ -63,21 +63,21 @@ next-count n parity = cond (ltZ n (pos 1) && not parity) (pos 0) (cond (ltZ n (p
 unfoldable pub tells : ℤ → Decoded → List ℤ → Bool
 tells n v y = ltZ (pos 5) n && (bounded (v .first .a) && (bounded (v .second .a) && inside y frame-length))
 
--- how many frames in a row told their excitation, up to two
+-- how many frames in a row can be part of a window, up to two; from -1 the first isn't counted
 unfoldable pub next-clean : ℤ → Bool → ℤ
 next-clean c told = cond told (cond (ltZ c (pos 2)) (c +ℤ pos 1) (pos 2)) (pos 0)
 
 -- ---- a voice frame of far samples y, v its parameters
 
--- new candidates are taken from the last two frames: where they told their excitation, and the last isn't a candidate's
+-- new candidates are taken from the last two frames: where both can be part of a window, and the last isn't a candidate's. They replace those that there were
 unfoldable pub taken : Far → Bool
 taken h = ltZ (pos 1) (h .clean) && (ltZ (h .status) (pos 1) || ltZ (pos 1) (h .status))
 
--- there are candidates
+-- there are candidates: the frame is answered Known or Differs
 unfoldable pub known : Far → Bool
 known h = taken h || ltZ (pos 0) (h .status)
 
--- the slots behind the frame, before it is told which stay
+-- the slots behind the frame, before those that don't fit are dropped
 unfoldable pub slots-tried : List ℤ → Decoded → List ℤ → Far → List ℤ → List ℤ
 slots-tried t v y h s = let x = cond (taken h) (candidates (h .words) (h .tail) s) s in cond (known h) (all-tried t v y x) x
 
@@ -100,7 +100,7 @@ look y h s = record { known = known h; found = found h s; difference = first-dif
 unfoldable pub breaks : Far → Seen → Bool
 breaks h x = x .known && (not (x .found) && (taken h || ltZ (h .status) (pos 2)))
 
--- candidates of which none gave the frame stay, unless they are new: the line may have changed a sample, and the far decoder went on
+-- candidates of which none gave the frame stay, since the line may have changed a sample and the far decoder went on; unless they are new: then there are none
 unfoldable pub next-status : Far → Seen → ℤ
 next-status h x = cond (x .found) (pos 1) (cond (x .known && not (taken h)) (pos 2) (pos 0))
 

@@ -28,7 +28,7 @@ same a b = not (ltZ a b || ltZ b a)
 
 -- ---- a candidate
 
--- how many of the first m samples of y there are before the first that is not that of z, which has the ten samples before them in front
+-- how many of the first m samples of y are those of z before the first that isn't; z has ten samples in front
 unfoldable pub same-samples : List ℤ → List ℤ → ℕ → ℕ
 same-samples y z m = steps (λ k n. cond (eqb n k && same (at y k) (at z (tail-length + k))) (k + 1) n) m 0
 
@@ -49,7 +49,7 @@ tried t v y x =
 unfoldable pub all-tried : List ℤ → Decoded → List ℤ → List ℤ → List ℤ
 all-tried t v y s = steps (λ i x. put x (slot-length * i) (tried t v y (slot x i))) slots s
 
--- candidate i of the 160 words w that two frames told, behind the ten samples e: bits 0, 1 and 2 of i say whether their second, third and fourth subframe were shrunk
+-- candidate i of the 160 words w that two frames told, whose last ten samples are e: bits 0, 1 and 2 of i say whether their second, third and fourth subframe were shrunk
 unfoldable pub candidate : List ℤ → List ℤ → ℕ → List ℤ
 candidate w e i = pos 0 ∷ (window-words (eqb (i % 2) 1) (eqb (i / 2 % 2) 1) (eqb (i / 4 % 2) 1) w ++ (replicate frame-length (pos 0) ++ e))
 

@@ -35,11 +35,11 @@ pub struct Difference {
     pub rest: i32,
 }
 
-// What a frame is. A number is that of the frame in the count of common voice frames.
+// What a frame is. The number of Settling and NotClean is the frame's in the count of common voice frames (0: none has passed parity yet), that of Refused says why.
 pub enum Compared {
     Refused(u32),
     Concealed,
-    // There are no candidates yet.
+    // There are no candidates.
     Settling(u16),
     // Nor does this frame tell its excitation, though it is the sixth or a later one.
     NotClean(u16),
@@ -53,13 +53,14 @@ pub enum Compared {
 pub struct Far {
     // How many common voice frames there were in a row, from one that passes parity on.
     pub count: i16,
-    // How many of the last frames in a row told their excitation, at most two; below 0 behind a frame that differs.
+    // How many of the last frames in a row can be part of a window, at most two. 0 behind a frame that is a candidate's; -1 behind the first frame that differs, so that the
+    // next, whose ten samples before it can't be relied on, isn't counted.
     pub clean: i16,
-    // 0 there are no candidates; 1 the last frame is a candidate's; 2 it is none's.
+    // 0 there are no candidates; 1 the last frame is a candidate's; 2 it is none's, and the candidates stay.
     pub status: i16,
     // The last ten samples.
     pub tail: [i16; TAIL_LENGTH],
-    // The excitation that the last two frames told.
+    // The excitation that the last two frames told; behind a frame that is a candidate's it isn't kept up.
     pub words: [i16; WINDOW_LENGTH],
 }
 
@@ -162,7 +163,7 @@ fn take_candidates(h: Far, s: &mut [i16])
     }
 }
 
-// The slots behind the frame, before it is told which stay.
+// The slots behind the frame, before those that don't fit are dropped.
 fn slots_tried(t: &[i16], v: Decoded, y: &[i16; FRAME_LENGTH], h: Far, s: &mut [i16])
     ensures { λ r. ⌜ now (s .exit) ≡ slots-tried (now (t .entry)) v (now (y .entry)) h (now (s .entry)) ⌝ }
 {

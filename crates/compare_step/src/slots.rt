@@ -30,7 +30,7 @@ fn same(a: i16, b: i16) -> bool
     !((a < b) | (b < a))
 }
 
-// How many samples of y there are before the first that is not that of z, which has the ten samples before them in front.
+// How many samples of y are those of z before the first that isn't; z has ten samples in front.
 fn same_samples(y: &[i16; FRAME_LENGTH], z: &[i16; SPEECH_LENGTH]) -> usize
     ensures { λ r. ⌜ r ≡ same-samples (now (y .entry)) (now (z .entry)) frame-length ⌝ }
     ensures { λ r. ⌜ r ≤ frame-length ⌝ }
@@ -122,7 +122,7 @@ pub fn all_tried(t: &[i16], v: Decoded, y: &[i16; FRAME_LENGTH], s: &mut [i16])
     }
 }
 
-// Candidate i of the words w that two frames told, behind the ten samples e: bits 0, 1 and 2 of i say which subframes were shrunk.
+// Candidate i of the words w that two frames told, whose last ten samples are e: bits 0, 1 and 2 of i say which subframes were shrunk.
 fn candidate(w: &[i16; WINDOW_LENGTH], e: &[i16; TAIL_LENGTH], i: usize) -> [i16; SLOT_LENGTH]
     ensures { λ r. ⌜ r ≡ candidate (now (w .entry)) (now (e .entry)) i ⌝ }
 {

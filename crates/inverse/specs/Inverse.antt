@@ -1,5 +1,5 @@
 -- The inverse of synthesis: the excitation read off samples, ITU-T G.729 equation (77) solved for x(n), and what two frames of it tell of a decoder's past excitation.
--- A sample that was not limited is floor((4096 x(n) - a1 y(n - 1) - .. - a10 y(n - 10) + 2048) / 4096), so x(n) is y(n) without what the ten samples before it give.
+-- (x and y, as in Filter.antt of synth_filter, are the recommendation's excitation and speech.) A sample that was not limited is floor((4096 x(n) - a1 y(n - 1) - .. - a10 y(n - 10) + 2048) / 4096), so x(n) is y(n) without what the ten samples before it give.
 use Prim.Native.Nat.{ℕ, _+_, _^_, _<_}
 use mathlib.Core.Bool.{Bool, true, false, cond, _||_}
 use mathlib.Core.List.{List, _++_}
@@ -25,9 +25,9 @@ past-sum a y n = without (term a y n) 10 (pos 2048)
 unfoldable pub inverse : List ℤ → List ℤ → ℕ → ℤ
 inverse a y n = at y n -ℤ shrZ (past-sum a y n) (2 ^ 12)
 
--- ---- which samples give their excitation away
+-- ---- which samples tell their excitation
 
--- neither -32768 nor 32767, nor beyond: such a sample was not limited
+-- neither -32768 nor 32767, nor beyond: with coefficients in bound such a sample was not limited
 abbrev pub Inside : ℤ → Type 0
 Inside z = mag z < 32767
 
@@ -51,7 +51,7 @@ frame-words a b y = subframe-words a y (speech-start false) ++ subframe-words b 
 
 -- ---- two frames
 
--- the words as a subframe leaves them that was shrunk (its synthesis saturated, clause 4.1.6), or not
+-- the words as a subframe leaves them: divided by 4 where its synthesis saturated (clause 4.1.6; here called shrunk), else as they are
 unfoldable pub shrunk : Bool → List ℤ → List ℤ
 shrunk b l = cond b (divide-by-4 l) l
 

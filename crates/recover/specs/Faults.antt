@@ -1,4 +1,5 @@
--- Faults: a line that is sound (Sound.antt) but for frames whose samples were changed on their way, each of them alone. A fault is blamed in its own frame, and in no other.
+-- Faults: a line that is sound (Sound.antt) but for voice frames whose samples were changed on their way, each directly behind a frame that is answered Known, and each answered Differs. No other frame is blamed, and the voice frame
+-- behind each is answered Known.
 use mathlib.Core.Path.{_≡_}
 use mathlib.Core.List.{List, [], _∷_}
 use lib.Dec.{T}
@@ -13,7 +14,7 @@ use Rattle.recover.specs.Sound.{Item, said, class-of, memory-of, answere
 
 -- ---- the conditions
 
--- A voice frame that reached both, behind one that was answered Known (x is the answer before): the 80 samples that are heard may be any. It is answered Differs: had a candidate given
+-- A voice frame that reached both, behind one that was answered Known (x is the answer before): the 80 samples that are heard may be any. It is asked that it is answered Differs, which can be seen: had a candidate given
 -- them by chance, the others would be dropped
 pub record Fault (t : List ℤ) (i : Item) (m : List ℤ) (x : Compared) : Type 0 where
   pub voice : i .kind ≡ 0

@@ -88,6 +88,6 @@ module _ {t : List ℤ} {before during : List Call} {a b : List ℤ} (w : CleanW
 
 pub record Recovery : Type 0 where
   pub known : (t : List ℤ) (before during : List Call) (a b : List ℤ) (w : CleanWindow t before during a b) → Known w
-  -- what was recorded of later common voice frames and none of the eight gives, no decoder of these frames gave, whatever it held before
+  -- what was recorded of later common voice frames and none of the eight gives, no decoder of these frames with these samples in the window gave, whatever it held before
   pub refuted : (t : List ℤ) (before during : List Call) (a b : List ℤ) (w : CleanWindow t before during a b) (cs : List Call) → All (VoiceWith t) (frames cs (own-block w))
       → (recorded : List (List ℤ)) → ((second third fourth : Bool) → map samples (frames cs (candidate w second third fourth)) ≢ recorded) → map samples (frames cs (far-block w)) ≢ recorded

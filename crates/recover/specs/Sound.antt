@@ -52,16 +52,16 @@ compared t (i ∷ l) m = answered t i m ∷ compared t l (memory-of (said t i m)
 
 -- ---- the conditions
 
--- Neither call is refused, but for what memory and state block hold. A frame that the comparison is handed as voice, the far decoder is too, with the same tables. For a frame of another kind
--- the far decoder may be handed anything: mark a frame as lost wherever it was lost at either end
+-- The comparison's call isn't refused, but for what its memory holds. A voice frame of it is one of the far decoder's too, with the same tables. For a frame of another kind nothing is asked of the far decoder: it
+-- may be handed anything, a refused call too, which leaves its state as it was. Mark a frame as lost wherever it was lost at either end
 pub record Common (t : List ℤ) (i : Item) : Type 0 where
   pub handed : (input-check (i .kind) (i .payload) (length (i .heard)) ≡ 0) × (input-check (i .kind) (i .payload) (length (i .room)) ≡ 0)
-  pub decoded : code (i .far) ≡ 0
+  pub decoded : i .kind ≡ 0 → code (i .far) ≡ 0
   pub same : i .kind ≡ 0 → (i .far .kind ≡ 0) × ((i .far .payload ≡ i .payload) × (i .far .tables ≡ t))
 
--- the samples that are heard are those that the far decoder writes, its state block being b
+-- the samples that are heard of a voice frame are those that the far decoder writes, its state block being b. Of another frame they may be any
 abbrev pub Clear : Item → List ℤ → Type 0
-Clear i b = i .heard ≡ output (made (i .far) b)
+Clear i b = i .kind ≡ 0 → i .heard ≡ output (made (i .far) b)
 
 abbrev pub AllClear : List Item → List ℤ → Type 0
 AllClear [] b = Unit {0}
@@ -98,7 +98,7 @@ pub record Fair (x : Answered) : Type 0 where
 abbrev pub VoiceKnown : Answered → Type 0
 VoiceKnown x = x .item .kind ≡ 0 → x .answer ≡ Known
 
--- answered Settling n, n above 5: there are no candidates yet, and the frame tells its excitation
+-- answered Settling n, n above 5: there are no candidates, and the frame tells its excitation (by `class` and `tells` of Compare: it is the sixth or a later one, its coefficients are in bound and its samples inside their range)
 pub record Told (x : Answered) : Type 0 where
   pub number : ℕ
   pub is : x .answer ≡ Settling number

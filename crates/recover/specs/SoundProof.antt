@@ -79,8 +79,8 @@ module _ (t : List ℤ) (tables : table-check t ≡ 0) (i : Item) (common : Comm
   abbrev d : Decision
   d = decide (i .kind) (i .payload)
 
-  b1-is : read b1 ≡ frame-of (i .far) (read b) .state
-  b1-is = ap read (made-frame (i .far) b far-ok (common .decoded) .0) ∙ read-after (i .far) b far-ok
+  b1-is : i .kind ≡ 0 → read b1 ≡ frame-of (i .far) (read b) .state
+  b1-is k = ap read (made-frame (i .far) b far-ok (common .decoded k) .0) ∙ read-after (i .far) b far-ok
 
   b1-ok : T (accepted-state b1)
   b1-ok = accepted-after (i .far) b far-ok
@@ -120,11 +120,11 @@ module _ (t : List ℤ) (tables : table-check t ≡ 0) (i : Item) (common : Comm
 
     samples-are : output (made (i .far) b) ≡ samples
     unfolding decode parameters
-    samples-are = made-frame (i .far) b far-ok (common .decoded) .1 ∙ ap (λ (x : Frame). x .samples) frame-is
+    samples-are = made-frame (i .far) b far-ok (common .decoded k) .1 ∙ ap (λ (x : Frame). x .samples) frame-is
 
     left-is : read b1 ≡ left
     unfolding decode parameters
-    left-is = b1-is ∙ ap (λ (x : Frame). x .state) frame-is
+    left-is = b1-is k ∙ ap (λ (x : Frame). x .state) frame-is
 
     module _ {g : Stage} (r : Reached g m b) where
       abbrev p : Params
@@ -177,14 +177,14 @@ module _ (t : List ℤ) (tables : table-check t ≡ 0) (i : Item) (common : Comm
 
       voice-went : Clear i b → Went g
       voice-went c =
-          let e = ap class-of (now-is samples (c ∙ samples-are)) in
+          let e = ap class-of (now-is samples (c k ∙ samples-are)) in
           record {
             stage = moved .stage;
             link = record {
               fair = record { voice = λ z. subst Unblamed (sym e) (moved .unblamed); concealed = λ z. absurd (z k) };
               next = λ z. subst (Next g (moved .stage)) (sym e) (moved .next);
             };
-            reached = led-on (moved .stage) samples (c ∙ samples-are) (moved .led);
+            reached = led-on (moved .stage) samples (c k ∙ samples-are) (moved .led);
           }
 
     -- others are heard, and blamed

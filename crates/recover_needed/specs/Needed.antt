@@ -1,6 +1,6 @@
--- The conditions of Recovery.antt can be met together, by a far decoder that is heard and that no waiting makes equal to the own one. And four of them can't be left out: five frames before the window,
--- samples inside their range, the bound on the coefficients, and the eight in place of one. Next to each stands an example in which it fails, the rest holds, and the far signal is not what is told.
--- Witness.antt computes them: whole frames for the windows, single samples for range and bound. That frame 1 must pass parity, `ParityNeeded` of agreement shows.
+-- The conditions of Recovery.antt can be met together, by a far decoder that is heard and that no waiting makes equal to the own one. Three of them can't be left out. Five frames before the window: with four, the rest holding,
+-- the far signal is none of the eight. Samples inside their range, and the bound on the coefficients: shown for one sample and any coefficients, not for a decoder's window. And one signal in place of the eight is too few: with a
+-- shrunk subframe. Witness.antt computes these. Parity isn't treated here; `ParityNeeded` of agreement shows that without it the delays of frame 1 may differ.
 use Prim.Native.Nat.{ℕ, _^_, _≤_}
 use mathlib.Core.Path.{_≡_}
 use mathlib.Core.Bool.{Bool, true, false}
@@ -83,7 +83,7 @@ pub record Met : Type 0 where
 
 -- ---- five frames
 
--- With four, the own filter of the window's first subframe is still mixed with what was before frame 1, and the far decoder's is not. Its signal is none of the eight.
+-- With four, the own filter of the window's first subframe still depends on the row from before frame 1, which the far decoder had otherwise. The far signal is none of the eight.
 pub record FiveFrames : Type 0 where
   pub window : WindowAfter 4
   pub four : length (frames (window .before) (window .a)) ≡ 4

@@ -1,1 +1,1 @@
-// No code: the conditions of Recovery can be met, and each is needed (specs/Needed.antt).
+// No code: the conditions of Recovery can be met, and which of them are shown to be needed (specs/Needed.antt).
