@@ -1,4 +1,4 @@
--- A sample that is at no end of its range gives its excitation away; and the two tests of specs/Inverse.antt by what they say. Assumes nothing.
+-- A sample that is at no end of its range tells its excitation; and the two tests of specs/Inverse.antt by what they say. Assumes nothing.
 use Prim.Native.Nat.{ℕ, zero, suc, _+_, _-_, _*_, _^_, _≤_, _<_, min}
 use mathlib.Core.Path.{_≡_, refl, sym, ap, subst, _∙_}
 use mathlib.Core.Bool.{Bool, true, false, _||_}
