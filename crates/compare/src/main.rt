@@ -593,6 +593,9 @@ fn checked(a: Asked, tables: &[u8], t: &mut [i16; 1880]) {
 }
 
 fn main() {
+    if !files::standard_open() {
+        return;
+    }
     let a = files::asked(2, 3);
     let usage = USAGE;
     let done = files::answered(

@@ -134,7 +134,7 @@ fn put(form: &[u8; ROOM], n: usize, out: &mut [u8]) -> usize
 }
 
 // The form of a stretch whose last frame is `to`, at the front of `out`, where there is one.
-pub fn close(s: Stretch, to: u32, out: &mut [u8]) -> usize
+fn close(s: Stretch, to: u32, out: &mut [u8]) -> usize
     requires { ⌜ 160 ≤ length (now out) ⌝ }
     ensures { λ r. ⌜ r ≤ 160 ⌝ }
 {

@@ -64,6 +64,24 @@ pub fn refuse(code: u32, name: &[u8], what: &[u8]) {
     say(name, what);
 }
 
+// Takes the number of a standard descriptor that is closed. What takes it can't be read or written. False, with a message, where nothing can be opened.
+fn fill() -> bool {
+    let fd = os::open_read(b"/");
+    if fd < 0 {
+        os::fail(b"/");
+        return false;
+    }
+    if STDERR_FILENO < fd {
+        libc::close(fd);
+    }
+    true
+}
+
+// All three standard descriptors are taken, so that no file that is opened for writing gets the number of one and has messages written over its bytes.
+pub fn standard_open() -> bool {
+    fill() && fill() && fill()
+}
+
 // One word of the command line.
 fn next(a: Asked, most: usize, i: usize) -> Asked {
     let mut word = io::buffer();

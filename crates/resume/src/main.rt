@@ -32,22 +32,8 @@ fn run(a: Asked, most: u32) {
     job_files::resume(&tables[0..t], &call[0..c], &state[0..s], &out[0..o], most);
 }
 
-// Takes the number of a standard descriptor that is closed, so that no file of the job gets it and has messages written over its bytes. What takes it can't be read or
-// written. False, with a message, where nothing can be opened.
-fn fill() -> bool {
-    let fd = os::open_read(b"/");
-    if fd < 0 {
-        os::fail(b"/");
-        return false;
-    }
-    if STDERR_FILENO < fd {
-        libc::close(fd);
-    }
-    true
-}
-
 fn main() {
-    if !fill() || !fill() || !fill() {
+    if !files::standard_open() {
         return;
     }
     let usage = USAGE;
