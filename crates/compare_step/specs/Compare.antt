@@ -2,7 +2,7 @@
 -- frame on all parameters of two decoders but the seed are equal (Demand 3), so the samples of two frames tell its past excitation, but for which of three subframes were shrunk: it is one of eight candidates. From
 -- there on each candidate is decoded, and those stay whose samples have been the far ones.
 use Prim.Native.Nat.{ℕ}
-use mathlib.Core.Bool.{Bool, true, false, cond, not, _&&_, _||_}
+use mathlib.Core.Bool.{Bool, cond, not, _&&_, _||_}
 use mathlib.Core.List.{List, [], _∷_, _++_, map}
 use lib.Dec.{eqb}
 use lib.IntN.{ℤ, pos, negsuc, _+ℤ_, _-ℤ_}

@@ -1,6 +1,6 @@
 -- Laws of the comparison, from what the calls inside it give. Assumes nothing.
 use Prim.Native.Nat.{ℕ, _-_, _≤_}
-use mathlib.Core.Path.{_≡_, refl, sym, ap, _∙_}
+use mathlib.Core.Path.{_≡_, refl, ap, _∙_}
 use mathlib.Core.Bool.{Bool, true, false, cond}
 use mathlib.Core.List.{List, [], _++_, append-assoc, append-nil}
 use native.Mathlib.Nat.{zero-add}
@@ -16,11 +16,11 @@ use Rattle.plc.specs.declared.Decision.{Decision}
 use Rattle.state.specs.State.{read-params, write-params, accepted}
 use Rattle.parameters.specs.declared.Decoded.{Decoded}
 use Rattle.parameters.specs.Parameters.{parameters}
-use Rattle.decoder.specs.Call.{first-of, input-check}
+use Rattle.decoder.specs.Call.{input-check}
 use Rattle.decoder.specs.Laws.{both, room-is}
 use Rattle.compare_step.specs.declared.Far.{Far}
 use Rattle.compare_step.specs.declared.Left.{Left}
-use Rattle.compare_step.specs.Compare.{front-length, compare-length, read-far, far-words, left-of, Step, step, memory-check, refusal, answer, stepped}
+use Rattle.compare_step.specs.Compare.{front-length, compare-length, read-far, far-words, left-of, step, memory-check, refusal, answer, stepped}
 
 -- v in place of the front of b
 pub put-front : (b v : List ℤ) (n : ℕ) → length v ≡ n → n ≤ length b → put b 0 v ≡ v ++ drop n b

@@ -3,14 +3,13 @@
 ghost use mathlib.Core.Path.{_≡_};
 ghost use mathlib.Core.Bool.{cond};
 ghost use mathlib.Core.List.{_++_, map};
-ghost use Prim.Native.Nat.{_<_, _≤_};
 ghost use lib.IntN.{pos, negsuc};
 ghost use lib.ListN.{length, drop, replicate};
 ghost use Rattle.block.specs.Places.{frame-length};
 ghost use Rattle.inverse.specs.Inverse.{frame-words, word};
 ghost use Rattle.state.specs.State.{write-params};
 ghost use Rattle.compare_step.specs.Slots.{candidates, only-fitting, best, computed};
-ghost use Rattle.compare_step.specs.Compare.{front-length, compare-length, left-of, voice-step, step, read-far, far-words, no-far, next-count, tells, next-clean, taken, known, slots-tried, slots-left, found, first-difference, look, breaks, next-status, voice-far, class, memory-check, refusal, Answer, stepped, compare, Begun, begin};
+ghost use Rattle.compare_step.specs.Compare.{compare-length, left-of, voice-step, step, read-far, far-words, next-count, tells, next-clean, taken, known, slots-tried, slots-left, found, first-difference, look, breaks, next-status, voice-far, class, memory-check, refusal, Answer, stepped, compare, Begun, begin};
 
 mod slots;
 

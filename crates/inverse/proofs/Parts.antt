@@ -1,14 +1,14 @@
 -- The words of a frame as one list of 80. Assumes nothing.
 use Prim.Native.Nat.{ℕ, zero, suc, _+_, _≤_, _<_}
 use mathlib.Core.Path.{_≡_, refl, sym, ap, ap₂, _∙_}
-use mathlib.Core.Bool.{Bool, true, false, cond}
+use mathlib.Core.Bool.{cond}
 use mathlib.Core.List.{List, [], _∷_, _++_, map, map-append, append-assoc, append-nil}
 use native.Mathlib.Nat.{add-zero, add-suc}
 use native.Mathlib.Omega.{arith}
 use borrow.Author.Tests.{lt-ltb, le-ltb}
 use lib.Dec.{ltb}
 use lib.IntN.{ℤ}
-use Rattle.laws.specs.Lists.{tab, tab-ext}
+use Rattle.laws.specs.Lists.{tab}
 use Rattle.inverse.specs.Inverse.{inverse, subframe-words, frame-words, word}
 
 map-tab : (g : ℤ → ℤ) (f : ℕ → ℤ) (n : ℕ) → map g (tab n f) ≡ tab n (λ k. g (f k))

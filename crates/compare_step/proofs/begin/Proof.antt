@@ -1,7 +1,7 @@
 -- `compare_step::begin` meets its contract: each way out rewrites with the tests that led there.
-use mathlib.Core.Path.{_≡_, refl, ap, sym, _∙_}
-use mathlib.Core.List.{List, _++_, append-assoc}
-use lib.IntN.{ℤ, pos}
+use mathlib.Core.Path.{_≡_, ap, _∙_}
+use mathlib.Core.List.{append-assoc}
+use lib.IntN.{pos}
 use lib.ListN.{length, replicate, length-replicate}
 use native.Mathlib.Omega.{arith}
 use borrow.Author.Tests.{eq-eqb, ne-eqb}

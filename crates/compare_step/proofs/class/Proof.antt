@@ -1,6 +1,5 @@
 -- `compare_step::class` meets its contract: each test picks its case.
 use mir.Facts.{toZ-ofZ}
-use mathlib.Core.Path.{_∙_}
 use borrow.Author.Needs.{needs}
 use Rattle.compare_step.specs.Compare.{class}
 use Rattle.compare_step.proofs.class.Statement.{statement}

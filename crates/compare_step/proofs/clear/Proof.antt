@@ -3,7 +3,7 @@ use Prim.Native.Nat.{_-_, _≤_}
 use mathlib.Core.Path.{_≡_, refl, _∙_}
 use native.Mathlib.Omega.{arith}
 use lib.IntN.{pos}
-use lib.ListN.{length, length-set, replicate}
+use lib.ListN.{length, length-set}
 use Rattle.laws.specs.Lists.{filled, filled-none, fill, filled-end}
 use Rattle.compare_step.proofs.Parts.{tab-zeros}
 use borrow.Author.Needs.{needs}

@@ -1,10 +1,10 @@
 -- `compare_step::compare` meets its contract: a refusal by its number, else the frame.
-use mathlib.Core.Path.{_≡_, sym, ap, _∙_}
+use mathlib.Core.Path.{sym, ap, _∙_}
 use borrow.Author.Tests.{eq-eqb, ne-eqb}
 use Rattle.plc.specs.declared.Decision.{Decision}
 use borrow.Author.Needs.{needs}
 use Rattle.compare_step.specs.Laws.{lengths}
-use Rattle.compare_step.specs.Compare.{compare, stepped, Answer}
+use Rattle.compare_step.specs.Compare.{compare, stepped}
 use Rattle.compare_step.proofs.compare.Statement.{statement}
 use Rattle.compare_step.proofs.compare.Tie as tie
 

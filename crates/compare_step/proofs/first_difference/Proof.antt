@@ -1,11 +1,7 @@
 -- `compare_step::first_difference` meets its contract: both samples at the place where the best candidate ends.
-use Prim.Native.Nat.{_<_}
-use mathlib.Core.Path.{_≡_, sym, ap, _∙_}
-use mir.Syntax.{w16, w32}
-use mir.Val.{toZ, ofZ}
+use mathlib.Core.Path.{_∙_}
+use mir.Syntax.{w16}
 use mir.Facts.{toZ-ofZ}
-use lib.IntN.{ℤ, _-ℤ_}
-use lib.Signed.{mag}
 use native.Mathlib.Omega.{arith}
 use Rattle.laws.specs.Back.{came}
 use Rattle.laws.specs.Range.{mag-sub}

@@ -1,14 +1,12 @@
 -- `compare_step::next_clean` meets its contract: each test picks its case.
 use native.Mathlib.Omega.{arith}
 use borrow.Author.Tests.{not-true, not-false, ltb-true, lt-ltb}
-use mir.Syntax.{w16}
 use mir.Facts.{toZ-ofZ}
 use lib.IntN.{ℤ, pos, negsuc, _+ℤ_}
 use lib.Signed.{mag, ltZ}
-use mathlib.Core.Path.{_≡_, _∙_, ap}
+use mathlib.Core.Path.{_≡_, _∙_}
 use Prim.Native.Nat.{zero, suc, _<_}
 use mathlib.Core.Bool.{true}
-use borrow.Author.Needs.{needs}
 use Rattle.compare_step.specs.Compare.{next-clean}
 use Rattle.compare_step.proofs.next_clean.Statement.{statement}
 use Rattle.compare_step.proofs.next_clean.Tie as tie

@@ -1,6 +1,5 @@
 -- `compare_step::next_count` meets its contract: each test picks its case.
 use native.Mathlib.Omega.{arith}
-use mir.Syntax.{w16}
 use mir.Facts.{toZ-ofZ}
 use lib.IntN.{ℤ, pos, negsuc, _+ℤ_}
 use lib.Signed.{mag, ltZ}
@@ -8,7 +7,6 @@ use mathlib.Core.Path.{_≡_, _∙_}
 use Prim.Native.Nat.{zero, suc, _<_}
 use borrow.Author.Tests.{ltb-true, lt-ltb}
 use mathlib.Core.Bool.{true}
-use borrow.Author.Needs.{needs}
 use Rattle.compare_step.specs.Compare.{next-count}
 use Rattle.compare_step.proofs.next_count.Statement.{statement}
 use Rattle.compare_step.proofs.next_count.Tie as tie

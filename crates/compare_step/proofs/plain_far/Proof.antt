@@ -1,5 +1,5 @@
 -- `compare_step::plain_far` meets its contract.
-use mathlib.Core.Path.{_≡_, _∙_}
+use mathlib.Core.Path.{_≡_}
 use lib.ListN.{length}
 use mir.Facts.{toZ-ofZ}
 use Rattle.block.specs.Laws.{last-part}

@@ -1,5 +1,4 @@
 -- `compare_step::read_far` meets its contract: each part from its place.
-use mathlib.Core.Path.{_≡_, _∙_}
 use mir.Syntax.{w16}
 use Rattle.laws.specs.Back.{came}
 use borrow.Author.Needs.{needs}

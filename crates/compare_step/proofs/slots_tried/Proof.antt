@@ -1,5 +1,5 @@
 -- `compare_step::slots_tried` meets its contract.
-use mathlib.Core.Path.{_≡_, ap, _∙_}
+use mathlib.Core.Path.{ap, _∙_}
 use borrow.Author.Needs.{needs}
 use Rattle.compare_step.specs.Slots.{all-tried}
 use Rattle.compare_step.specs.Compare.{slots-tried}

@@ -1,8 +1,7 @@
 -- `compare_step::step` meets its contract: by the kind of the frame.
-use mathlib.Core.Path.{_≡_, ap, _∙_}
 use borrow.Author.Needs.{needs}
 use Rattle.compare_step.specs.declared.Compared.the-variants.{Concealed}
-use Rattle.compare_step.specs.Compare.{concealed-far, step, left-of, Step}
+use Rattle.compare_step.specs.Compare.{concealed-far, step}
 use Rattle.compare_step.proofs.step.Statement.{statement}
 use Rattle.compare_step.proofs.step.Tie as tie
 

@@ -1,17 +1,11 @@
 -- `compare_step::voice_step` meets its contract: what the calls give, one after the other.
-use mathlib.Core.Path.{_≡_, ap, _∙_}
-use mathlib.Core.Bool.{Bool}
-use mathlib.Core.List.{List}
+use mathlib.Core.Path.{ap, _∙_}
 use lib.IntN.{ℤ}
 use mir.Syntax.{w16}
-use mir.Val.{toZ, ofZ}
 use Rattle.laws.specs.Back.{via, came}
 use borrow.Author.Needs.{needs}
-use Rattle.compare_step.specs.declared.Seen.{Seen}
-use Rattle.compare_step.specs.declared.Far.{Far}
-use Rattle.compare_step.specs.declared.Compared.{Compared}
 use Rattle.pitch.specs.Pitch.{parity-ok}
-use Rattle.compare_step.specs.Compare.{next-count, tells, voice-far, class, look, slots-left, slots-tried, left-of, Step, voice-step}
+use Rattle.compare_step.specs.Compare.{next-count, tells, voice-far, class, voice-step}
 use Rattle.compare_step.proofs.voice_step.Statement.{statement}
 use Rattle.compare_step.proofs.voice_step.Tie as tie
 

@@ -1,8 +1,5 @@
 -- `inverse::bounded` meets its contract: the sizes are compared with their limit.
-use mathlib.Core.Path.{_∙_, ap}
-use Prim.Native.Nat.{ℕ}
 use borrow.Author.Needs.{needs}
-use lib.Dec.{leb}
 use Rattle.inverse.specs.Inverse.{bounded}
 use Rattle.inverse.proofs.bounded.Statement.{statement}
 use Rattle.inverse.proofs.bounded.Tie as tie

@@ -1,15 +1,15 @@
 -- `inverse::past_sum` meets its contract: before turn i the products of i samples are taken off.
 use Prim.Native.Nat.{_+_, _-_, _*_, _≤_, _<_}
-use mathlib.Core.Path.{_≡_, refl, ap, sym, _∙_}
+use mathlib.Core.Path.{_≡_, refl, _∙_}
 use native.Mathlib.Omega.{arith}
 use borrow.Author.Needs.{needs}
-use lib.IntN.{ℤ, pos, _-ℤ_}
+use lib.IntN.{pos, _-ℤ_}
 use lib.Signed.{mag}
 use mir.Syntax.{w16, w64}
 use mir.Val.{toZ, ofZ}
 use mir.Facts.{toZ-ofZ}
 use Rattle.laws.specs.Lists.{at}
-use Rattle.laws.specs.Loops.{steps, steps-turn, steps-none, ended}
+use Rattle.laws.specs.Loops.{steps, steps-turn, ended}
 use Rattle.laws.specs.Sums.{without}
 use Rattle.laws.specs.Range.{mag-sub}
 use Rattle.laws.specs.Back.{via, came}

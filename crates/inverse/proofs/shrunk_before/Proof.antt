@@ -1,5 +1,5 @@
 -- `inverse::shrunk_before` meets its contract: the front is divided, the rest stays.
-use mathlib.Core.Path.{_≡_, refl, sym, _∙_}
+use mathlib.Core.Path.{sym, _∙_}
 use borrow.Author.Needs.{needs}
 use lib.ListN.{length-take, take-append-drop}
 use native.Mathlib.Omega.{arith}

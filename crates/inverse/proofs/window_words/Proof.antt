@@ -1,5 +1,5 @@
 -- `inverse::window_words` meets its contract: the three subframes one after the other, then the newest 154 words.
-use mathlib.Core.Path.{_≡_, refl, sym, ap, _∙_}
+use mathlib.Core.Path.{_≡_, ap, _∙_}
 use borrow.Author.Needs.{needs}
 use lib.ListN.{length, drop}
 use Rattle.block.specs.Laws.{last-part}

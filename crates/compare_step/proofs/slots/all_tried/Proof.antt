@@ -1,6 +1,6 @@
 -- `slots::all_tried` meets its contract: before turn i the first i slots are behind the frame.
 use Prim.Native.Nat.{_*_, _-_, _≤_}
-use mathlib.Core.Path.{_≡_, refl, ap, sym, _∙_}
+use mathlib.Core.Path.{_≡_, refl, ap, _∙_}
 use native.Mathlib.Omega.{arith}
 use lib.ListN.{length}
 use Rattle.laws.specs.Loops.{steps, steps-none, steps-turn, ended-from}

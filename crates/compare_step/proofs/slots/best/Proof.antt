@@ -1,8 +1,8 @@
 -- `slots::best` meets its contract: of the first i slots it is the first with the most.
-use mathlib.Core.Path.{_≡_, refl, ap, _∙_}
+use mathlib.Core.Path.{_≡_, _∙_}
 use mathlib.Core.Logic.{⊎-elim}
 use mathlib.Core.Bool.{cond}
-use Prim.Native.Nat.{ℕ, _-_, _≤_, _<_}
+use Prim.Native.Nat.{_-_, _≤_, _<_}
 use mir.Syntax.{w16}
 use Rattle.laws.specs.Back.{came}
 use Rattle.laws.specs.Loops.{steps, steps-none, steps-turn, ended}

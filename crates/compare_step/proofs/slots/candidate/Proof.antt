@@ -1,11 +1,7 @@
 -- `slots::candidate` meets its contract: the window's words, and the speech behind them.
-use mathlib.Core.Path.{_≡_, refl, ap, ap₂, _∙_}
-use mathlib.Core.List.{List, _∷_, _++_}
-use lib.ListN.{replicate, length}
-use lib.IntN.{ℤ, pos}
+use mathlib.Core.Path.{_≡_, _∙_}
+use lib.ListN.{length}
 use Rattle.block.specs.Block.{put}
-use borrow.Author.Tests.{le-leb}
-use native.Mathlib.Omega.{arith}
 use borrow.Author.Needs.{needs}
 use Rattle.compare_step.proofs.Parts.{put-last}
 use Rattle.compare_step.specs.Slots.{candidate}

@@ -1,16 +1,13 @@
 -- `slots::same_samples` meets its contract: the first k samples are compared.
-use Prim.Native.Nat.{ℕ, _+_, _-_, _≤_}
-use mathlib.Core.Path.{_≡_, ap, sym, _∙_}
-use mathlib.Core.Bool.{Bool, cond, _&&_}
+use Prim.Native.Nat.{_+_, _-_, _≤_}
+use mathlib.Core.Path.{_≡_, _∙_}
 use mathlib.Core.Logic.{⊎-elim}
 use native.Mathlib.Omega.{arith}
 use borrow.Author.Needs.{needs}
-use lib.Dec.{eqb}
-use lib.IntN.{ℤ}
 use mir.Syntax.{w16}
 use Rattle.laws.specs.Lists.{at}
 use Rattle.laws.specs.Back.{via}
-use Rattle.laws.specs.Loops.{steps, steps-none, steps-turn, ended}
+use Rattle.laws.specs.Loops.{steps-none, steps-turn, ended}
 use Rattle.compare_step.specs.Slots.{same, same-samples}
 use Rattle.compare_step.proofs.slots.same_samples.Statement.{statement}
 use Rattle.compare_step.proofs.slots.same_samples.Tie as tie

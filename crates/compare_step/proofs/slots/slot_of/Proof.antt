@@ -1,10 +1,9 @@
 -- `slots::slot_of` meets its contract: the parts stand one after the other.
-use mathlib.Core.Path.{_≡_, refl, sym, _∙_}
+use mathlib.Core.Path.{_≡_, refl}
 use native.Mathlib.Omega.{arith}
 use lib.ListN.{length}
 use mir.Syntax.{w16}
-use Rattle.block.specs.Laws.{Front, front-none, front-more, front-one, front-all}
-use Rattle.block.specs.Places.{past-length, speech-length}
+use Rattle.block.specs.Laws.{front-none, front-more, front-one, front-all}
 use borrow.Author.Needs.{needs}
 use Rattle.compare_step.proofs.slots.slot_of.Statement.{statement}
 use Rattle.compare_step.proofs.slots.slot_of.Tie as tie

@@ -1,14 +1,13 @@
 -- `slots::tried` meets its contract: the candidate's next frame, with how many of its samples are the far ones.
-use mathlib.Core.Path.{_≡_, refl, sym, ap, _∙_}
-use mathlib.Core.List.{List, _∷_, _++_}
-use lib.IntN.{ℤ, pos}
-use lib.ListN.{length, drop}
+use mathlib.Core.Path.{_≡_, ap, _∙_}
+use mathlib.Core.List.{_∷_, _++_}
+use lib.IntN.{pos}
+use lib.ListN.{drop}
 use mathlib.Core.Bool.{true, false}
 use mir.Syntax.{w16}
 use mir.Val.{toZ, ofZ}
 use native.Mathlib.Omega.{arith}
 use Rattle.laws.specs.Back.{via}
-use Rattle.block.specs.Laws.{last-part}
 use Rattle.decoder.specs.Frame.{Buffers, buffers, frame-buffers, subframe-signal, frame-signal}
 use borrow.Author.Needs.{needs}
 use Rattle.compare_step.specs.Slots.{tried, slot-signal, same-samples}
