@@ -4,7 +4,7 @@ use mathlib.Core.List.{List}
 use Prim.Native.Nat.{ℕ, _+_, _*_}
 use lib.Dec.{eqb, ltb}
 use lib.IntN.{ℤ, pos}
-use lib.ListN.{length, take, getD, replicate}
+use lib.ListN.{length, take, getD}
 use Rattle.laws.specs.Bytes.{same}
 use Rattle.laws.specs.Digits.{value}
 use Rattle.laws.specs.Lists.{tab}

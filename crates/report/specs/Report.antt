@@ -6,7 +6,6 @@ use lib.IntN.{ℤ, pos}
 use Rattle.count.specs.declared.Counts.{Counts}
 use Rattle.count.specs.Count.{no-counts}
 use Rattle.line_step.specs.Step.{one-more}
-use Rattle.compare_step.specs.declared.Difference.{Difference}
 use Rattle.compare_step.specs.declared.Compared.{Compared}
 use Rattle.compare_step.specs.declared.Compared.the-variants.{Refused, Concealed, Settling, NotClean, Known, Differs}
 use Rattle.report.specs.declared.Told.{Told}

@@ -1,6 +1,5 @@
 -- `far::is_printed` meets its contract: what is printed again fills its buffer.
 use mathlib.Core.Path.{refl, sym, ap, _∙_}
-use native.Mathlib.Omega.{arith}
 use lib.ListN.{length}
 use Rattle.print.specs.Laws.{length-pcm}
 use Rattle.far.specs.Laws.{over-whole}
