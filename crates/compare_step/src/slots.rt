@@ -113,7 +113,7 @@ fn slot(s: &[i16], i: usize) -> [i16; SLOT_LENGTH]
 }
 
 // Every candidate behind a frame of far samples y.
-pub fn all_tried(t: &[i16], v: Decoded, y: &[i16; FRAME_LENGTH], s: &mut [i16])
+pub(crate) fn all_tried(t: &[i16], v: Decoded, y: &[i16; FRAME_LENGTH], s: &mut [i16])
     ensures { λ r. ⌜ now (s .exit) ≡ all-tried (now (t .entry)) v (now (y .entry)) (now (s .entry)) ⌝ }
 {
     for i in 0..SLOTS {
@@ -133,7 +133,7 @@ fn candidate(w: &[i16; WINDOW_LENGTH], e: &[i16; TAIL_LENGTH], i: usize) -> [i16
 }
 
 // The eight candidates.
-pub fn candidates(w: &[i16; WINDOW_LENGTH], e: &[i16; TAIL_LENGTH], s: &mut [i16])
+pub(crate) fn candidates(w: &[i16; WINDOW_LENGTH], e: &[i16; TAIL_LENGTH], s: &mut [i16])
     ensures { λ r. ⌜ now (s .exit) ≡ candidates (now (w .entry)) (now (e .entry)) (now (s .entry)) ⌝ }
 {
     for i in 0..SLOTS {
@@ -145,7 +145,7 @@ pub fn candidates(w: &[i16; WINDOW_LENGTH], e: &[i16; TAIL_LENGTH], s: &mut [i16
 // ---- which candidates stay
 
 // How many samples candidate i gave.
-pub fn fit(s: &[i16], i: usize) -> i16
+pub(crate) fn fit(s: &[i16], i: usize) -> i16
     requires { ⌜ i < 8 ⌝ }
     ensures { λ r. ⌜ r ≡ fit (now (s .entry)) i ⌝ }
 {
@@ -153,7 +153,7 @@ pub fn fit(s: &[i16], i: usize) -> i16
 }
 
 // Whether it gave all 80.
-pub fn fits(s: &[i16], i: usize) -> bool
+pub(crate) fn fits(s: &[i16], i: usize) -> bool
     requires { ⌜ i < 8 ⌝ }
     ensures { λ r. ⌜ r ≡ fits (now (s .entry)) i ⌝ }
 {
@@ -217,7 +217,7 @@ fn vacate(s: &mut [i16], i: usize)
 }
 
 // The candidates that stay; the other slots have none.
-pub fn only_fitting(s: &mut [i16])
+pub(crate) fn only_fitting(s: &mut [i16])
     ensures { λ r. ⌜ now (s .exit) ≡ only-fitting (now (s .entry)) ⌝ }
 {
     for i in 0..SLOTS {
@@ -226,7 +226,7 @@ pub fn only_fitting(s: &mut [i16])
 }
 
 // The first slot whose candidate gave the most samples.
-pub fn best(s: &[i16]) -> usize
+pub(crate) fn best(s: &[i16]) -> usize
     ensures { λ r. ⌜ r ≡ best (now (s .entry)) ⌝ }
     ensures { λ r. ⌜ r < 8 ⌝ }
 {
@@ -240,7 +240,7 @@ pub fn best(s: &[i16]) -> usize
 }
 
 // The samples of candidate i.
-pub fn computed(s: &[i16], i: usize) -> [i16; FRAME_LENGTH]
+pub(crate) fn computed(s: &[i16], i: usize) -> [i16; FRAME_LENGTH]
     requires { ⌜ i < 8 ⌝ }
     ensures { λ r. ⌜ r ≡ computed (now (s .entry)) i ⌝ }
 {

@@ -2,7 +2,7 @@
 ghost use mathlib.Core.Path.{_≡_};
 ghost use Prim.Native.Nat.{_+_, _^_, _<_, _≤_};
 ghost use lib.ListN.{length};
-ghost use Rattle.compare_turn.specs.Turn.{Within};
+ghost use Rattle.compare_turn.specs.Turn.{Within, start, call-at, far-at, next};
 use count::Counted;
 use count::Counts;
 use line::LONGEST;
@@ -65,7 +65,9 @@ pub struct Taken {
 }
 
 // Before the first frame.
-pub fn start() -> Standing {
+pub fn start() -> Standing
+    ensures { λ r. ⌜ r ≡ start ⌝ }
+{
     let tally = report::none();
     Standing {
         code: 0,
@@ -440,7 +442,9 @@ pub fn turn(
 }
 
 // What a call has at hand, whose file has ended or not.
-pub fn call_at(call: &[u8], ended: bool) -> u32 {
+pub fn call_at(call: &[u8], ended: bool) -> u32
+    ensures { λ r. ⌜ r ≡ call-at (now (call .entry)) ended ⌝ }
+{
     let n = bytes::scan::find(call, 0, call.len(), 10);
     if n < call.len() {
         return READY;
@@ -458,20 +462,24 @@ pub fn call_at(call: &[u8], ended: bool) -> u32 {
 }
 
 // What a file of far samples has at hand: a printed one ends before a line of another form.
-pub fn far_at(form: u32, far: &[u8], ended: bool) -> u32 {
+pub fn far_at(form: u32, far: &[u8], ended: bool) -> u32
+    ensures { λ r. ⌜ r ≡ far-at form (now (far .entry)) ended ⌝ }
+{
     let found = far::frame(form, far);
     if found.bytes != 0 {
         return READY;
     }
-    if far.len() < FRAME_ROOM && !ended {
+    if (far.len() < FRAME_ROOM) & !ended {
         return WAIT;
     }
     END
 }
 
 // What follows, by what both have at hand. A line is refused only where there are samples for it.
-pub fn next(call: u32, far: u32) -> u32 {
-    if call == WAIT || far == WAIT {
+pub fn next(call: u32, far: u32) -> u32
+    ensures { λ r. ⌜ r ≡ next call far ⌝ }
+{
+    if (call == WAIT) | (far == WAIT) {
         return READ;
     }
     if far == END {
