@@ -1,9 +1,10 @@
-// The operations of 01 for other languages, the writing of a line, the agreement of two decoders and the comparison with a far one: C functions over pointers and lengths, each the proved function of its crate.
+// The operations of 01 for other languages, the writing of frames and lines, the agreement of two decoders and the comparison with a far one: C functions over pointers and lengths, each the proved function of its crate.
 // A slice is a pointer and then a length in elements. Each returns 0 or the number of its refusal, which leaves all lent memory as it
 // was; what it answers beside its number goes to lent memory. include/holdamek.h says the same for C.
 ghost use mathlib.Core.Path.{_≡_};
 ghost use Rattle.tables.specs.Layout.{table-check};
 ghost use Rattle.bitstream.specs.Fields as fields;
+ghost use Rattle.pack.specs.Pack.{write-fields, write-fields-parity};
 ghost use Rattle.state.specs.State as state;
 ghost use Rattle.agree.specs.Agree.{agree};
 ghost use Rattle.decoder.specs.Call.{frame};
@@ -24,6 +25,22 @@ pub extern "C" fn holdamek_fields(bytes: &[u8], receiver: &mut [u16]) -> u32
     ensures { λ r. ⌜ fields.answer r (now (receiver .exit)) ≡ fields.fields-call (now (bytes .entry)) (now (receiver .entry)) ⌝ }
 {
     bitstream::fields(bytes, receiver)
+}
+
+// Fifteen numbers, in the order of their bits.
+#[no_mangle]
+pub extern "C" fn holdamek_write_fields(numbers: &[u16], bytes: &mut [u8]) -> u32
+    ensures { λ r. ⌜ fields.answer r (now (bytes .exit)) ≡ write-fields (now (numbers .entry)) (now (bytes .entry)) ⌝ }
+{
+    pack::write_fields(numbers, bytes)
+}
+
+// Fourteen: P0 is left out, and supplied.
+#[no_mangle]
+pub extern "C" fn holdamek_write_fields_parity(numbers: &[u16], bytes: &mut [u8]) -> u32
+    ensures { λ r. ⌜ fields.answer r (now (bytes .exit)) ≡ write-fields-parity (now (numbers .entry)) (now (bytes .entry)) ⌝ }
+{
+    pack::write_fields_parity(numbers, bytes)
 }
 
 #[no_mangle]

@@ -1,7 +1,7 @@
 -- Laws of the delays: fractions as remainders, and ranges. Assumes nothing.
-use Prim.Native.Nat.{ℕ, zero, suc, _+_, _-_, _*_, _/_, _%_, _≤_, _<_}
+use Prim.Native.Nat.{ℕ, zero, suc, _+_, _-_, _*_, _/_, _%_, _^_, _≤_, _<_}
 use mathlib.Core.Path.{_≡_, refl, ap, subst}
-use mathlib.Core.Bool.{Bool, true, false, cond, _&&_}
+use mathlib.Core.Bool.{Bool, true, false, cond, not, _&&_}
 use native.Mathlib.Omega.{arith}
 use native.Mathlib.Nat.{mod-lt, mod-mod}
 use lib.Dec.{T, eqb, leb, ltb, lit<}
@@ -11,10 +11,10 @@ use borrow.Author.Tests.{lt-ltb, le-ltb, ltb-true, ltb-false}
 use mir.Syntax.{w16}
 use mir.Val.{SFits}
 use mir.Facts.{and-yes, yes-and, leb-yes, yes-leb, eqb-yes, sfits-lit}
-use Rattle.laws.specs.Loops.{every, every-at}
+use Rattle.laws.specs.Loops.{steps, every, every-at}
 use Rattle.basic_op.specs.Ops.{lesser}
 use Rattle.pitch.specs.declared.Delay.{Delay}
-use Rattle.pitch.specs.Pitch.{decode-t1, decode-t2, t-min, nat, increased, first, second, erased}
+use Rattle.pitch.specs.Pitch.{parity-ok, decode-t1, decode-t2, t-min, nat, increased, first, second, erased}
 
 -- ---- the fraction is a remainder less 1
 
@@ -105,6 +105,19 @@ fits-less (suc n) h = rw (le-ltb (suc n) 1 (omega arith)) (record { sfits = omeg
 
 pub odd-sum : (a b x : ℕ) → a % 2 ≡ b % 2 → (a + x) % 2 ≡ (b + x % 2) % 2
 odd-sum a b x e = omega arith
+
+-- one value of P0 passes, the other fails
+pub one-passes : (p1 : ℕ) → parity-ok p1 1 ≡ not (parity-ok p1 0)
+unfolding parity-ok
+one-passes p1 = one (steps (λ k ones. ones + p1 / 2 ^ (k + 2) % 2) 6 1)
+  where
+    by : (r : ℕ) → r < 2 → eqb r 1 ≡ not (eqb r 0)
+    by zero h = refl
+    by (suc zero) h = refl
+    by (suc (suc r)) h = absurd (omega arith)
+
+    one : (n : ℕ) → eqb (n % 2) 1 ≡ not (eqb (n % 2) 0)
+    one n = by (n % 2) (mod-lt n (lit< tt))
 
 -- ---- ranges
 

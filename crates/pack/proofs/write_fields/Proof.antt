@@ -1,0 +1,45 @@
+-- `pack::write_fields` meets its contract: the struct has the fifteen numbers that are lent.
+use mathlib.Core.Path.{ap, _∙_}
+use mathlib.Core.List.{List, [], _∷_}
+use Prim.Native.Nat.{ℕ}
+use lib.ListN.{length}
+use borrow.Author.Needs.{needs}
+use Rattle.pack.specs.Pack.{written, write-fields}
+use Rattle.pack.specs.Laws.{cells, fifteen}
+use Rattle.pack.proofs.write_fields.Statement.{statement}
+use Rattle.pack.proofs.write_fields.Tie as tie
+
+returns : tie.Need-returns
+unfolding write-fields cells
+returns c =
+    let e = c .before .before .before .before in
+    let d = e .before .before .before .before .before .before .before in
+    let s = d .before .before .before .before .before .before .before .before .before .before .args in
+    c .before .before .written .ensures
+    ∙ ap (λ (l : List ℕ). written (length (s .fields .now)) 15 l (s .bytes .now))
+    (λ i.
+    (d .before .before .before .before .before .before .before .number .ensures) i
+    ∷ (d .before .before .before .before .before .before .number2 .ensures) i
+    ∷ (d .before .before .before .before .before .number3 .ensures) i
+    ∷ (d .before .before .before .before .number4 .ensures) i
+    ∷ (d .before .before .before .number5 .ensures) i
+    ∷ (d .before .before .number6 .ensures) i
+    ∷ (d .before .number7 .ensures) i
+    ∷ (d .number8 .ensures) i
+    ∷ (e .before .before .before .before .before .before .number9 .ensures) i
+    ∷ (e .before .before .before .before .before .number10 .ensures) i
+    ∷ (e .before .before .before .before .number11 .ensures) i
+    ∷ (e .before .before .before .number12 .ensures) i
+    ∷ (e .before .before .number13 .ensures) i
+    ∷ (e .before .number14 .ensures) i
+    ∷ (e .number15 .ensures) i
+    ∷ [])
+    ∙ fifteen (s .fields .now) (s .bytes .now)
+
+pub write-fields-spec : {M : Type 1} → statement M
+write-fields-spec =
+    tie.close
+    (tie.spec (λ c κs. search needs) (λ c κs. search needs) (λ c κs. search needs) (λ c κs. search needs) (λ c κs. search needs)
+    (λ c κs. search needs) (λ c κs. search needs) (λ c κs. search needs) (λ c κs. search needs) (λ c κs. search needs) (λ c κs. search needs)
+    (λ c κs. search needs) (λ c κs. search needs) (λ c κs. search needs) (λ c κs. search needs) (λ c κs. search needs) (λ c. search needs)
+    returns)
