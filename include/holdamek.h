@@ -1,5 +1,5 @@
-/* Holdamek: the six operations of a G.729 voice path, the writing of a line, the agreement of two decoders and the comparison with a far one, as C
- * functions (x86-64 Linux; C99 or later, C++).
+/* Holdamek: the six operations of a G.729 voice path, the writing of lines and of voice frames, the agreement of two decoders and the comparison with a far
+ * one, as C functions (x86-64 Linux; C99 or later, C++).
  * `rt staticlib holdamek` makes target/staticlib/libholdamek.a:  cc -Iinclude program.c target/staticlib/libholdamek.a
  * Installed (`make install`):  cc program.c $(pkg-config --cflags --libs holdamek)
  *
@@ -21,9 +21,9 @@
 #include <stdint.h>
 
 /* The version of header and library; the shared library has the first number in its name. */
-#define HOLDAMEK_VERSION "0.4.0"
+#define HOLDAMEK_VERSION "0.5.0"
 #define HOLDAMEK_VERSION_MAJOR 0
-#define HOLDAMEK_VERSION_MINOR 4
+#define HOLDAMEK_VERSION_MINOR 5
 #define HOLDAMEK_VERSION_PATCH 0
 
 #ifdef __cplusplus
@@ -38,6 +38,7 @@ enum holdamek_size {
     HOLDAMEK_PAYLOAD_BYTES = 10,      /* bytes of a voice frame, and room for the payload of a line */
     HOLDAMEK_SID_BYTES = 2,           /* bytes of a SID frame */
     HOLDAMEK_FIELDS = 15,             /* fields of a voice frame */
+    HOLDAMEK_FIELDS_WITHOUT_P0 = 14,  /* fields that are written with P0 supplied */
     HOLDAMEK_SHORTEST_LINE = 14,      /* characters of the shortest line, without its line feed */
     HOLDAMEK_LONGEST_LINE = 36,       /* characters of the longest line, without its line feed */
     HOLDAMEK_MOST_FRAMES = 360000     /* frames of a call at most */
@@ -49,6 +50,26 @@ enum holdamek_kind {
     HOLDAMEK_SID = 1,
     HOLDAMEK_NO_TRANSMISSION = 2,
     HOLDAMEK_ERASED = 3
+};
+
+/* The places of a voice frame's fields (G.729 Table 8), in the order of their bits, and their widths. Highest bits come first. The fourteen fields of
+ * holdamek_write_fields_parity are the same with HOLDAMEK_P0 left out: those behind it stand one place earlier. */
+enum holdamek_field {
+    HOLDAMEK_L0 = 0,                  /* 1 bit: predictor of the line spectral frequencies */
+    HOLDAMEK_L1 = 1,                  /* 7 bits: their first codebook */
+    HOLDAMEK_L2 = 2,                  /* 5 bits: their second codebook, for the lower five */
+    HOLDAMEK_L3 = 3,                  /* 5 bits: the same, for the higher five */
+    HOLDAMEK_P1 = 4,                  /* 8 bits: delay of the first subframe */
+    HOLDAMEK_P0 = 5,                  /* 1 bit: parity of bits 2 to 7 of P1 */
+    HOLDAMEK_C1 = 6,                  /* 13 bits: positions of the first subframe's pulses */
+    HOLDAMEK_S1 = 7,                  /* 4 bits: their signs */
+    HOLDAMEK_GA1 = 8,                 /* 3 bits: gains, first codebook */
+    HOLDAMEK_GB1 = 9,                 /* 4 bits: gains, second codebook */
+    HOLDAMEK_P2 = 10,                 /* 5 bits: delay of the second subframe, relative to the first's; then as there */
+    HOLDAMEK_C2 = 11,                 /* 13 bits */
+    HOLDAMEK_S2 = 12,                 /* 4 bits */
+    HOLDAMEK_GA2 = 13,                /* 3 bits */
+    HOLDAMEK_GB2 = 14                 /* 4 bits */
 };
 
 /* How far two decoders agree from here on, with the same tables, through every list of frames (of any kinds, losses too) that both receive. */
@@ -77,12 +98,13 @@ enum holdamek_refusal {
     HOLDAMEK_STATE_LENGTH = 3,        /* the state block isn't 234 words; the memory of a comparison: not 2,203 */
     HOLDAMEK_STATE_VALUES = 4,        /* in the state block, or in the memory of a comparison, the predictor isn't 0 or 1, or the delay is outside 19..144 */
     HOLDAMEK_KIND_ABOVE_3 = 5,        /* there is no such kind of frame */
-    HOLDAMEK_PAYLOAD_LENGTH = 6,      /* the payload isn't 10, 2, 0, 0 bytes for kinds 0 to 3; for fields: not ten bytes */
+    HOLDAMEK_PAYLOAD_LENGTH = 6,      /* the payload isn't 10, 2, 0, 0 bytes for kinds 0 to 3; for fields and their writing: not ten bytes */
     HOLDAMEK_OUTPUT_LENGTH = 7,       /* the output isn't 80 words, or there aren't 80 far samples; for the writing of a line: not 36 bytes */
-    HOLDAMEK_RECEIVER_LENGTH = 8,     /* the receiver of fields isn't 15 numbers */
+    HOLDAMEK_RECEIVER_LENGTH = 8,     /* the receiver of fields isn't 15 numbers; for the writing of fields: there are not 15, or not 14 without P0 */
     HOLDAMEK_LINE_FORM = 9,           /* the line isn't one of the four forms */
     HOLDAMEK_COUNT_LIMIT = 10,        /* a count is 360,000 or more already */
-    HOLDAMEK_LINE_ROOM = 11           /* the room for a line's payload isn't ten bytes */
+    HOLDAMEK_LINE_ROOM = 11,          /* the room for a line's payload isn't ten bytes */
+    HOLDAMEK_FIELD_WIDTH = 15         /* a field exceeds its width */
 };
 
 /* Whether a table block is accepted. Refusals 1, 2. */
@@ -98,6 +120,14 @@ uint32_t holdamek_frame(const int16_t *tables, size_t tables_length, int16_t *st
 
 /* The fifteen fields of a voice frame, in the order of their bits: L0 L1 L2 L3 P1 P0 C1 S1 GA1 GB1 P2 C2 S2 GA2 GB2. Refusals 6, 8. */
 uint32_t holdamek_fields(const uint8_t *bytes, size_t bytes_length, uint16_t *fields, size_t fields_length);
+
+/* Writes the ten bytes of a voice frame from its fifteen fields, the opposite of holdamek_fields: reading them returns the fields, and writing what was
+ * read from any ten bytes returns the bytes. P0 is written as it is, whether parity passes or not. Refusals 8, 6, 15. */
+uint32_t holdamek_write_fields(const uint16_t *fields, size_t fields_length, uint8_t *bytes, size_t bytes_length);
+
+/* The same from fourteen fields, all but P0, which is supplied so that parity passes (clause 3.7.2: the sum of bits 2 to 7 of P1, of P0 and of 1 is even).
+ * With the other P0 the same fields fail it. Refusals 8, 6, 15. */
+uint32_t holdamek_write_fields_parity(const uint16_t *fields, size_t fields_length, uint8_t *bytes, size_t bytes_length);
 
 /* Reads one line of a call without its line feed, `(frame (voice H))` with 20 digits 0-9 a-f, `(frame (sid H))` with 4,
  * `(frame (quiet))` or `(frame (lost))`: writes its kind, and its payload to the front of ten bytes, of which the others stay as

@@ -394,6 +394,192 @@ static void of_compare(void)
     CHECK(memory[m] == MARK && samples[f] == MARK);
 }
 
+/* The greatest number of each field (G.729 Table 8), in the order of their bits. */
+static const uint16_t most[HOLDAMEK_FIELDS] = {1, 127, 31, 31, 255, 1, 8191, 15, 7, 15, 31, 8191, 15, 7, 15};
+
+enum { MORE_FIELDS = 20, MORE_BYTES = 12, MARK_BYTE = 0xee };
+
+/* Fields to be written, and the bytes that they are written to, with a mark before them: more of both than a frame has. */
+static uint16_t fields[MORE_FIELDS];
+static uint8_t room[1 + MORE_BYTES];
+static uint8_t *const bytes = room + 1;
+
+/* Whether the bytes beside the ten are as they were. */
+static int marked(void)
+{
+    return room[0] == MARK_BYTE && bytes[10] == MARK_BYTE && bytes[11] == MARK_BYTE;
+}
+
+typedef uint32_t writer(const uint16_t *fields, size_t fields_length, uint8_t *bytes, size_t bytes_length);
+
+/* Whether the writer refuses these lengths with this number, and leaves all bytes and the fields as they were. */
+static int refuses(writer *write, size_t f, size_t b, uint32_t due)
+{
+    uint16_t fields_before[MORE_FIELDS];
+    uint8_t room_before[sizeof room];
+
+    memset(room, MARK_BYTE, sizeof room);
+    memcpy(room_before, room, sizeof room);
+    memcpy(fields_before, fields, sizeof fields);
+    return write(fields, f, bytes, b) == due && memcmp(room, room_before, sizeof room) == 0 && memcmp(fields, fields_before, sizeof fields) == 0;
+}
+
+/* Every wrong length, with fields that are all too wide: their number comes first, then the bytes, then the widths. */
+static void of_writing_lengths(writer *write, size_t count)
+{
+    size_t n, b;
+
+    memset(fields, 0xff, sizeof fields);
+    for (n = 0; n <= MORE_FIELDS; n++)
+        for (b = 0; b <= MORE_BYTES; b++)
+            check(refuses(write, n, b, n != count ? HOLDAMEK_RECEIVER_LENGTH : b != 10 ? HOLDAMEK_PAYLOAD_LENGTH : HOLDAMEK_FIELD_WIDTH),
+                  "lengths are refused before widths, that of the fields first");
+    CHECK(refuses(write, (size_t)-1, 10, HOLDAMEK_RECEIVER_LENGTH));
+    CHECK(refuses(write, count, (size_t)-1, HOLDAMEK_PAYLOAD_LENGTH));
+    CHECK(write(NULL, 0, NULL, 0) == HOLDAMEK_RECEIVER_LENGTH);
+    CHECK(write(NULL, 0, bytes, 10) == HOLDAMEK_RECEIVER_LENGTH);
+    CHECK(write(fields, count, NULL, 0) == HOLDAMEK_PAYLOAD_LENGTH);
+    memset(fields, 0, sizeof fields);
+    CHECK(refuses(write, count, 9, HOLDAMEK_PAYLOAD_LENGTH) && refuses(write, count + 1, 10, HOLDAMEK_RECEIVER_LENGTH));
+}
+
+/* Each field at its limit, one above it, and with each higher bit alone; the others at 0, then at their limits. `limits` are the writer's. */
+static void of_writing_widths(writer *write, const uint16_t *limits, size_t count)
+{
+    size_t n;
+    unsigned others, bit;
+
+    for (others = 0; others < 2; others++)
+        for (n = 0; n < count; n++) {
+            memset(fields, 0, sizeof fields);
+            if (others)
+                memcpy(fields, limits, count * sizeof *limits);
+            fields[n] = (uint16_t)(limits[n] + 1);
+            check(refuses(write, count, 10, HOLDAMEK_FIELD_WIDTH), "a field one above its limit is refused");
+            fields[n] = 0xffff;
+            check(refuses(write, count, 10, HOLDAMEK_FIELD_WIDTH), "a field far above its limit is refused");
+            for (bit = 0; bit < 16; bit++) {
+                fields[n] = (uint16_t)(1u << bit);
+                if (fields[n] > limits[n])
+                    check(refuses(write, count, 10, HOLDAMEK_FIELD_WIDTH), "a field with a higher bit is refused");
+            }
+            fields[n] = limits[n];
+            check(write(fields, count, bytes, 10) == HOLDAMEK_OK && marked(), "a field at its limit is written");
+        }
+}
+
+static void without_p0(const uint16_t *from, uint16_t *to)
+{
+    memcpy(to, from, HOLDAMEK_P0 * sizeof *to);
+    memcpy(to + HOLDAMEK_P0, from + HOLDAMEK_C1, (HOLDAMEK_FIELDS - HOLDAMEK_C1) * sizeof *to);
+}
+
+/* Whether the fields are written, and reading the bytes returns them. */
+static int read_back(void)
+{
+    uint16_t back[HOLDAMEK_FIELDS];
+
+    return holdamek_write_fields(fields, HOLDAMEK_FIELDS, bytes, 10) == HOLDAMEK_OK &&
+           holdamek_fields(bytes, 10, back, HOLDAMEK_FIELDS) == HOLDAMEK_OK && memcmp(fields, back, sizeof back) == 0;
+}
+
+/* Whether what is read from these ten bytes is written as these bytes. */
+static int written_back(const uint8_t *from)
+{
+    return holdamek_fields(from, 10, fields, HOLDAMEK_FIELDS) == HOLDAMEK_OK &&
+           holdamek_write_fields(fields, HOLDAMEK_FIELDS, bytes, 10) == HOLDAMEK_OK && memcmp(from, bytes, 10) == 0;
+}
+
+/* Whether the fields but P0 are written, and reading the bytes returns them; `fields` then has the P0 that was supplied. */
+static int supplied(void)
+{
+    uint16_t lent[HOLDAMEK_FIELDS_WITHOUT_P0], back[HOLDAMEK_FIELDS_WITHOUT_P0];
+
+    without_p0(fields, lent);
+    if (holdamek_write_fields_parity(lent, HOLDAMEK_FIELDS_WITHOUT_P0, bytes, 10) != HOLDAMEK_OK ||
+        holdamek_fields(bytes, 10, fields, HOLDAMEK_FIELDS) != HOLDAMEK_OK)
+        return 0;
+    without_p0(fields, back);
+    return memcmp(lent, back, sizeof lent) == 0;
+}
+
+/* Both round trips: every number of every field, every bit alone, and bytes at random. */
+static void of_round_trips(void)
+{
+    uint8_t from[HOLDAMEK_PAYLOAD_BYTES];
+    uint32_t seed = 1;
+    unsigned n, k, value;
+
+    memset(room, MARK_BYTE, sizeof room);
+    for (n = 0; n < HOLDAMEK_FIELDS; n++)
+        for (value = 0; value <= most[n]; value++) {
+            memset(fields, 0, sizeof fields);
+            fields[n] = (uint16_t)value;
+            check(read_back(), "a field alone reads back");
+            memcpy(fields, most, sizeof most);
+            fields[n] = (uint16_t)value;
+            check(read_back(), "a field among limits reads back");
+        }
+    for (n = 0; n < 80; n++) {
+        memset(from, 0, sizeof from);
+        from[n / 8] = (uint8_t)(0x80u >> n % 8);
+        check(written_back(from), "a bit alone is written again");
+    }
+    for (n = 0; n < 10000; n++) {
+        for (k = 0; k < sizeof from; k++) {
+            seed = seed * 1664525u + 1013904223u;
+            from[k] = (uint8_t)(seed >> 24);
+        }
+        check(written_back(from) && supplied(), "what was read is written again");
+    }
+    CHECK(written_back(voice) && fields[HOLDAMEK_L1] == 62 && fields[HOLDAMEK_C1] == 5904 && fields[HOLDAMEK_GB2] == 4);
+    CHECK(marked());
+}
+
+/* Whether a voice frame passes parity: a comparison counts from the first that does. */
+static int passes(const uint8_t *payload)
+{
+    CHECK(holdamek_begin_compare(tables, HOLDAMEK_TABLE_WORDS, memory, HOLDAMEK_COMPARE_WORDS) == HOLDAMEK_OK);
+    CHECK(holdamek_compare(tables, HOLDAMEK_TABLE_WORDS, memory, HOLDAMEK_COMPARE_WORDS, HOLDAMEK_VOICE, payload, 10, far, HOLDAMEK_FRAME_SAMPLES, samples,
+                           HOLDAMEK_FRAME_SAMPLES, &what, &number, &rest) == HOLDAMEK_OK);
+    CHECK(what == HOLDAMEK_SETTLING && number <= 1);
+    return number == 1;
+}
+
+/* Every P1: parity passes with the P0 that is supplied, and fails with the other. */
+static void of_parity(void)
+{
+    unsigned p1, bit, sum;
+
+    memset(room, MARK_BYTE, sizeof room);
+    for (p1 = 0; p1 < 256; p1++) {
+        CHECK(holdamek_fields(voice, 10, fields, HOLDAMEK_FIELDS) == HOLDAMEK_OK);
+        fields[HOLDAMEK_P1] = (uint16_t)p1;
+        CHECK(supplied());
+        sum = fields[HOLDAMEK_P0] + 1u;
+        for (bit = 2; bit < 8; bit++)
+            sum += p1 >> bit & 1;
+        CHECK(sum % 2 == 0 && passes(bytes));
+        fields[HOLDAMEK_P0] = fields[HOLDAMEK_P0] == 0;
+        CHECK(read_back() && !passes(bytes));
+    }
+    CHECK(marked());
+}
+
+/* Both writers; the second has all limits but that of P0. */
+static void of_writing(void)
+{
+    uint16_t limits[HOLDAMEK_FIELDS_WITHOUT_P0];
+
+    without_p0(most, limits);
+    of_writing_lengths(holdamek_write_fields, HOLDAMEK_FIELDS);
+    of_writing_lengths(holdamek_write_fields_parity, HOLDAMEK_FIELDS_WITHOUT_P0);
+    of_writing_widths(holdamek_write_fields, most, HOLDAMEK_FIELDS);
+    of_writing_widths(holdamek_write_fields_parity, limits, HOLDAMEK_FIELDS_WITHOUT_P0);
+    of_round_trips();
+    of_parity();
+}
+
 int main(void)
 {
     size_t n;
@@ -415,6 +601,7 @@ int main(void)
     memory[HOLDAMEK_COMPARE_WORDS] = MARK;
     of_compare_refusals();
     of_compare();
+    of_writing();
     CHECK(tables[HOLDAMEK_TABLE_WORDS] == MARK);
     printf("border: %d checks, %d failed\n", checks, failed);
     return failed != 0;

@@ -6,7 +6,7 @@ RESUME = os.path.abspath(os.environ.get("RESUME", os.path.join(ROOT, "target/bin
 COMPARE = os.path.abspath(os.environ.get("COMPARE", os.path.join(ROOT, "target/bin/compare")))
 DECODE = os.path.abspath(os.environ.get("DECODE", os.path.join(ROOT, "target/bin/decode")))
 TABLES = os.path.join(ROOT, "examples/tables.g729")
-VERSION = b"holdamek 0.4.0\n"
+VERSION = b"holdamek 0.5.0\n"
 
 
 def a_line(r):
