@@ -20,6 +20,18 @@ mod c {
             out_len: usize,
         ) -> u32;
         pub fn holdamek_fields(bytes: *const u8, len: usize, to: *mut u16, to_len: usize) -> u32;
+        pub fn holdamek_write_fields(
+            fields: *const u16,
+            len: usize,
+            to: *mut u8,
+            to_len: usize,
+        ) -> u32;
+        pub fn holdamek_write_fields_parity(
+            fields: *const u16,
+            len: usize,
+            to: *mut u8,
+            to_len: usize,
+        ) -> u32;
         pub fn holdamek_line(
             text: *const u8,
             text_len: usize,
@@ -98,6 +110,18 @@ pub fn frame(t: &[i16], b: &mut [i16], kind: u32, payload: &[u8], out: &mut [i16
 pub fn fields(bytes: &[u8], to: &mut [u16]) -> u32 {
     // SAFETY: see the head of this file.
     unsafe { c::holdamek_fields(bytes.as_ptr(), bytes.len(), to.as_mut_ptr(), to.len()) }
+}
+
+pub fn write_fields(fields: &[u16], to: &mut [u8]) -> u32 {
+    // SAFETY: see the head of this file.
+    unsafe { c::holdamek_write_fields(fields.as_ptr(), fields.len(), to.as_mut_ptr(), to.len()) }
+}
+
+pub fn write_fields_parity(fields: &[u16], to: &mut [u8]) -> u32 {
+    // SAFETY: see the head of this file.
+    unsafe {
+        c::holdamek_write_fields_parity(fields.as_ptr(), fields.len(), to.as_mut_ptr(), to.len())
+    }
 }
 
 pub fn line(text: &[u8], kind: &mut u32, payload: &mut [u8]) -> u32 {

@@ -3,6 +3,7 @@
 //! A [`TableBlock`] holds your licensed tables, checked. A [`Decoder`] takes one [`Frame`] after another and gives the 80
 //! samples of each before the postfilter. Its [`StateBlock`] can be saved between any two frames and resumed later, here or on
 //! another machine. [`Frame::parse`] reads a line of a call, [`Frame::write`] writes it, and [`Counts`] counts its frames.
+//! [`SpeechParams`] has the fields of a voice frame by name, read from its ten bytes or to be written as these.
 //! [`StateBlock::agreement`] tells how far two decoders agree from here on. A [`Comparison`] tells of a far decoder's samples
 //! whether a decoder of the same frames makes them, whatever its past.
 //!
@@ -26,9 +27,11 @@ mod ffi;
 
 mod comparison;
 mod refusal;
+mod speech_params;
 
 pub use comparison::{Compared, Comparison, COMPARE_WORDS};
 pub use refusal::Refusal;
+pub use speech_params::SpeechParams;
 
 /// Words of a table block.
 pub const TABLE_WORDS: usize = 1880;
@@ -235,6 +238,28 @@ pub fn fields(bytes: &[u8]) -> Result<[u16; 15], Refusal> {
     let mut fields = [0; 15];
     Refusal::check(ffi::fields(bytes, &mut fields))?;
     Ok(fields)
+}
+
+/// The ten bytes of a voice frame with these fifteen fields, the opposite of [`fields`]. P0 is written as it is, whether parity
+/// passes or not.
+///
+/// # Errors
+/// [`Refusal::ReceiverLength`], [`Refusal::FieldWidth`].
+pub fn write_fields(fields: &[u16]) -> Result<[u8; 10], Refusal> {
+    let mut bytes = [0; 10];
+    Refusal::check(ffi::write_fields(fields, &mut bytes))?;
+    Ok(bytes)
+}
+
+/// The ten bytes of a voice frame with these fourteen fields, all but P0, which is supplied so that parity passes. With the other
+/// P0 the same fields fail it.
+///
+/// # Errors
+/// [`Refusal::ReceiverLength`], [`Refusal::FieldWidth`].
+pub fn write_fields_parity(fields: &[u16]) -> Result<[u8; 10], Refusal> {
+    let mut bytes = [0; 10];
+    Refusal::check(ffi::write_fields_parity(fields, &mut bytes))?;
+    Ok(bytes)
 }
 
 /// The counts of a call.

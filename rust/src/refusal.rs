@@ -16,11 +16,11 @@ pub enum Refusal {
     StateValues,
     /// 5: the kind of frame is above 3.
     Kind,
-    /// 6: the payload's length isn't that of its kind, or there are not ten bytes for the fields.
+    /// 6: the payload's length isn't that of its kind, or there are not ten bytes to read fields from or to write them to.
     PayloadLength,
     /// 7: the output isn't 80 words, or the room for a line isn't 36 bytes.
     OutputLength,
-    /// 8: the receiver of the fields isn't 15 numbers.
+    /// 8: the receiver of the fields isn't 15 numbers, or the fields to be written aren't 15, or 14 without P0.
     ReceiverLength,
     /// 9: the line isn't one of the four forms.
     LineForm,
@@ -28,48 +28,56 @@ pub enum Refusal {
     CountLimit,
     /// 11: the room for a line's payload isn't ten bytes.
     LineRoom,
+    /// 15: a field exceeds its width.
+    FieldWidth,
     /// A number that this version of the crate doesn't know.
     Other(u32),
 }
 
-/// The refusals 1 to 11, with their texts.
-const NUMBERED: [(Refusal, &str); 11] = [
-    (Refusal::TableLength, "the table block isn't 1,880 words"),
+/// The refusals with their numbers, 1 to 11 and 15, and their texts.
+const NUMBERED: [(u32, Refusal, &str); 12] = [
+    (1, Refusal::TableLength, "the table block isn't 1,880 words"),
     (
+        2,
         Refusal::TableDelay,
         "the initial delay in the table block is outside 19..144",
     ),
-    (Refusal::StateLength, "the state block isn't 234 words"),
+    (3, Refusal::StateLength, "the state block isn't 234 words"),
     (
+        4,
         Refusal::StateValues,
         "the predictor or the delay in the state block is out of range",
     ),
-    (Refusal::Kind, "there is no such kind of frame"),
+    (5, Refusal::Kind, "there is no such kind of frame"),
     (
+        6,
         Refusal::PayloadLength,
-        "the payload has another length than its kind",
+        "the payload has another length than its kind, or the bytes of the fields aren't ten",
     ),
-    (Refusal::OutputLength, "the output isn't 80 words"),
+    (7, Refusal::OutputLength, "the output isn't 80 words"),
     (
+        8,
         Refusal::ReceiverLength,
-        "the receiver of the fields isn't 15 numbers",
+        "the fields, or their receiver, aren't 15 numbers (14 without P0)",
     ),
-    (Refusal::LineForm, "the line isn't one of the four forms"),
-    (Refusal::CountLimit, "a count is 360,000 or more"),
+    (9, Refusal::LineForm, "the line isn't one of the four forms"),
+    (10, Refusal::CountLimit, "a count is 360,000 or more"),
     (
+        11,
         Refusal::LineRoom,
         "the room for a line's payload isn't ten bytes",
     ),
+    (15, Refusal::FieldWidth, "a field exceeds its width"),
 ];
 
 impl Refusal {
     /// The refusal of a number; 0 is success.
     pub(crate) fn check(code: u32) -> Result<(), Refusal> {
-        let Some(place) = code.checked_sub(1) else {
+        if code == 0 {
             return Ok(());
-        };
-        let named = NUMBERED.get(place as usize);
-        Err(named.map_or(Refusal::Other(code), |(refusal, _)| *refusal))
+        }
+        let found = NUMBERED.iter().find(|(number, _, _)| *number == code);
+        Err(found.map_or(Refusal::Other(code), |(_, refusal, _)| *refusal))
     }
 
     /// Its number, and its text.
@@ -77,9 +85,8 @@ impl Refusal {
         if let Refusal::Other(code) = self {
             return (code, "unknown");
         }
-        let mut numbers = (1..).zip(NUMBERED);
-        let found = numbers.find(|(_, (refusal, _))| *refusal == self);
-        found.map_or((0, ""), |(code, (_, text))| (code, text))
+        let found = NUMBERED.iter().find(|(_, refusal, _)| *refusal == self);
+        found.map_or((0, ""), |(number, _, text)| (*number, text))
     }
 
     /// Its number.
@@ -103,6 +110,7 @@ fn every_number_comes_back() {
     for code in (1..20).chain([u32::MAX]) {
         let refusal = Refusal::check(code).unwrap_err();
         assert_eq!(refusal.code(), code);
-        assert_eq!(matches!(refusal, Refusal::Other(_)), code > 11);
+        let known = code <= 11 || code == 15;
+        assert_eq!(matches!(refusal, Refusal::Other(_)), !known);
     }
 }

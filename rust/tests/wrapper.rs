@@ -1,8 +1,8 @@
-//! The wrapper over the example files: samples, saving and resuming, the agreement of two decoders, the comparison with a far one, every refusal that its types leave.
+//! The wrapper over the example files: samples, saving and resuming, the writing of frames, the agreement of two decoders, the comparison with a far one, every refusal that its types leave.
 
 use holdamek::{
-    fields, Agreement, Compared, Comparison, Counts, Decoder, Frame, Refusal, StateBlock,
-    TableBlock,
+    fields, write_fields, write_fields_parity, Agreement, Compared, Comparison, Counts, Decoder,
+    Frame, Refusal, SpeechParams, StateBlock, TableBlock,
 };
 use holdamek::{COMPARE_WORDS, LONGEST_LINE, MOST_FRAMES, STATE_WORDS, TABLE_WORDS};
 
@@ -243,6 +243,130 @@ fn lines_are_written() {
     }
 }
 
+/// The greatest number of each field (G.729 Table 8), in the order of their bits.
+const MOST: [u16; 15] = [1, 127, 31, 31, 255, 1, 8191, 15, 7, 15, 31, 8191, 15, 7, 15];
+/// The place of P0 among them.
+const P0: usize = 5;
+
+fn without_p0(fields: &[u16; 15]) -> Vec<u16> {
+    [&fields[..P0], &fields[P0 + 1..]].concat()
+}
+
+#[test]
+fn fields_have_names() {
+    let voice = [0x3e, 0xa0, 0x1d, 0x77, 0x10, 0xdf, 0x31, 0x07, 0x79, 0x94];
+    let params = SpeechParams {
+        l0: 0,
+        l1: 62,
+        l2: 20,
+        l3: 0,
+        p1: 117,
+        p0: 1,
+        c1: 5904,
+        s1: 13,
+        ga1: 7,
+        gb1: 9,
+        p2: 17,
+        c2: 239,
+        s2: 3,
+        ga2: 1,
+        gb2: 4,
+    };
+    assert_eq!(SpeechParams::unpack(&voice), Ok(params));
+    assert_eq!(params.pack(), Ok(voice));
+    assert_eq!(SpeechParams::default().fields(), [0; 15]);
+}
+
+#[test]
+fn fields_are_written_up_to_their_widths() {
+    assert_eq!(write_fields(&[0; 15]), Ok([0; 10]));
+    assert_eq!(write_fields(&MOST), Ok([0xff; 10]));
+    for (others, place) in [[0; 15], MOST]
+        .iter()
+        .flat_map(|o| (0..15).map(move |n| (o, n)))
+    {
+        let mut numbers = *others;
+        numbers[place] = MOST[place];
+        let bytes = write_fields(&numbers).unwrap();
+        assert_eq!(fields(&bytes), Ok(numbers));
+        for above in [MOST[place] + 1, u16::MAX] {
+            numbers[place] = above;
+            let params = SpeechParams::from_fields(numbers);
+            assert_eq!(params.fields(), numbers);
+            assert_eq!(write_fields(&numbers), Err(Refusal::FieldWidth));
+            assert_eq!(params.pack(), Err(Refusal::FieldWidth));
+            // P0 is looked at by neither of these.
+            let due = (place != P0).then_some(Refusal::FieldWidth);
+            assert_eq!(write_fields_parity(&without_p0(&numbers)).err(), due);
+            assert_eq!(params.pack_with_parity().err(), due);
+        }
+    }
+}
+
+#[test]
+fn another_number_of_fields_is_refused() {
+    for length in 0..=20 {
+        // Too wide as well: their number is looked at first.
+        let numbers = vec![u16::MAX; length];
+        let due = |right| match length == right {
+            true => Refusal::FieldWidth,
+            false => Refusal::ReceiverLength,
+        };
+        assert_eq!(write_fields(&numbers), Err(due(15)));
+        assert_eq!(write_fields_parity(&numbers), Err(due(14)));
+    }
+}
+
+#[test]
+fn what_was_read_is_written_again() {
+    let mut frames = 0;
+    for frame in call() {
+        let Frame::Voice(bytes) = frame else { continue };
+        let numbers = fields(&bytes).unwrap();
+        assert_eq!(write_fields(&numbers), Ok(bytes));
+        let params = SpeechParams::unpack(&bytes).unwrap();
+        assert_eq!(params.fields(), numbers);
+        assert_eq!(SpeechParams::from_fields(numbers), params);
+        assert_eq!(params.pack(), Ok(bytes));
+        // All frames of the example pass parity.
+        assert_eq!(write_fields_parity(&without_p0(&numbers)), Ok(bytes));
+        assert_eq!(params.pack_with_parity(), Ok(bytes));
+        frames += 1;
+    }
+    assert_eq!(frames, 40);
+}
+
+/// Whether a voice frame passes parity: a comparison counts from the first that does.
+fn passes(tables: &TableBlock, bytes: [u8; 10]) -> bool {
+    let mut comparison = Comparison::new(tables).unwrap();
+    let told = comparison.compare(&Frame::Voice(bytes), &[0; 80]);
+    assert!(matches!(told, Ok(Compared::Settling(0 | 1))));
+    told == Ok(Compared::Settling(1))
+}
+
+#[test]
+fn parity_passes_with_the_supplied_p0_alone() {
+    let tables = tables();
+    for p1 in 0..256 {
+        let mut params = SpeechParams::from_fields(MOST);
+        params.p1 = p1;
+        let bytes = params.pack_with_parity().unwrap();
+        let supplied = SpeechParams::unpack(&bytes).unwrap();
+        // Bits 2 to 7 of P1, P0 and 1 have an even sum.
+        assert_eq!(
+            (u32::from(p1 >> 2).count_ones() + u32::from(supplied.p0)) % 2,
+            1
+        );
+        for p0 in 0..2 {
+            params.p0 = p0;
+            assert_eq!(params.pack_with_parity(), Ok(bytes));
+            let written = params.pack().unwrap();
+            assert_eq!(written == bytes, p0 == supplied.p0);
+            assert_eq!(passes(&tables, written), p0 == supplied.p0);
+        }
+    }
+}
+
 #[test]
 fn a_call_has_a_limit() {
     let mut counts = Counts {
@@ -262,6 +386,7 @@ fn a_call_has_a_limit() {
 #[test]
 fn refusals_have_their_numbers() {
     assert_eq!(Refusal::CountLimit.code(), 10);
+    assert_eq!(Refusal::FieldWidth.code(), 15);
     assert_eq!(
         Refusal::LineForm.to_string(),
         "refusal 9: the line isn't one of the four forms"
