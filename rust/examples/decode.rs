@@ -2,8 +2,10 @@
 //! `(total (frames N) (lost M))`, or `(refused (code C) (line L))` as its last form with exit status 1. Where the call can't be read
 //! or the samples can't be written it says why on standard error, with exit status 2.
 
-use holdamek::{Counts, Decoder, Frame, Refusal, Samples, TableBlock};
-use holdamek::{FRAME_SAMPLES, LONGEST_LINE};
+mod common;
+
+use common::{finished, print, read, refused};
+use holdamek::{Counts, Decoder, Frame, Refusal, Samples, TableBlock, LONGEST_LINE};
 use std::io::{self, BufRead, Read, Write};
 use std::process::ExitCode;
 
@@ -12,21 +14,9 @@ fn main() -> ExitCode {
         eprintln!("usage: decode TABLES <call");
         return ExitCode::from(2);
     };
-    // A file that can't be read is refused like an empty one.
-    let file = std::fs::read(&path).unwrap_or_else(|error| {
-        eprintln!("{path}: {error}");
-        Vec::new()
-    });
     let mut out = io::BufWriter::new(io::stdout().lock());
-    match decode(&file, &mut io::stdin().lock(), &mut out)
-        .and_then(|code| out.flush().map(|()| code))
-    {
-        Ok(code) => code,
-        Err(error) => {
-            eprintln!("decode: {error}");
-            ExitCode::from(2)
-        }
-    }
+    let answer = decode(&read(&path), &mut io::stdin().lock(), &mut out);
+    finished("decode", answer, &mut out)
 }
 
 /// The whole call; 0 if it ends with a total, 1 if with a refusal.
@@ -66,22 +56,4 @@ fn next(decoder: &mut Decoder, counts: &mut Counts, line: &[u8]) -> Result<Sampl
     let frame = Frame::parse(line.strip_suffix(b"\n").ok_or(Refusal::LineForm)?)?;
     counts.count(&frame)?;
     decoder.decode(&frame)
-}
-
-/// Four digits for each sample; a `write!` for each would take longer than decoding it.
-fn print(samples: &Samples, out: &mut impl Write) -> io::Result<()> {
-    let mut digits = [0; 4 * FRAME_SAMPLES];
-    for (four, sample) in digits.chunks_exact_mut(4).zip(samples) {
-        let [high, low] = sample.to_be_bytes().map(usize::from);
-        let nibbles = [high >> 4, high & 15, low >> 4, low & 15];
-        four.copy_from_slice(&nibbles.map(|nibble| b"0123456789abcdef"[nibble]));
-    }
-    out.write_all(b"(pcm ")?;
-    out.write_all(&digits)?;
-    out.write_all(b")\n")
-}
-
-fn refused(refusal: Refusal, line: u32, out: &mut impl Write) -> io::Result<ExitCode> {
-    writeln!(out, "(refused (code {}) (line {line}))", refusal.code())?;
-    Ok(ExitCode::from(1))
 }

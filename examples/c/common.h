@@ -1,0 +1,73 @@
+/* What the example programs in C share: tables from a file, printed forms and exit statuses. */
+#ifndef COMMON_H
+#define COMMON_H
+
+#include <holdamek.h>
+#include <stdio.h>
+#include <string.h>
+
+/* Bytes of a payload, by kind. */
+static const size_t payload_length[] = {HOLDAMEK_PAYLOAD_BYTES, HOLDAMEK_SID_BYTES, 0, 0};
+
+static int failed(const char *what)
+{
+    perror(what);
+    return 2;
+}
+
+static int refused(uint32_t code, uint32_t line)
+{
+    int printed = printf("(refused (code %u) (line %u))\n", (unsigned)code, (unsigned)line);
+
+    return printed < 0 ? failed("standard output") : 1;
+}
+
+/* The exit status. What is still in the buffer is written here: a full disk may show only now. */
+static int finished(int status)
+{
+    if (fclose(stdout) != 0 && status != 2)
+        return failed("standard output");
+    return status;
+}
+
+/* Reads 1,880 words, low byte first; a file of another length is refused. */
+static uint32_t read_tables(const char *path, int16_t tables[HOLDAMEK_TABLE_WORDS])
+{
+    uint8_t bytes[2 * HOLDAMEK_TABLE_WORDS + 1];
+    FILE *file = fopen(path, "rb");
+    size_t length = 0, i;
+
+    if (file != NULL)
+        length = fread(bytes, 1, sizeof bytes, file);
+    if (file == NULL || ferror(file))
+        perror(path);
+    if (file != NULL)
+        fclose(file);
+    if (length != 2 * HOLDAMEK_TABLE_WORDS)
+        return HOLDAMEK_TABLE_LENGTH;
+    for (i = 0; i < HOLDAMEK_TABLE_WORDS; i++)
+        tables[i] = (int16_t)(uint16_t)(bytes[2 * i] | bytes[2 * i + 1] << 8);
+    return holdamek_table_check(tables, HOLDAMEK_TABLE_WORDS);
+}
+
+/* Prints the form of a frame by one fwrite; a printf for each sample would take longer than decoding it. */
+static int print_samples(const int16_t samples[HOLDAMEK_FRAME_SAMPLES])
+{
+    static const char digits[] = "0123456789abcdef";
+    char form[5 + 4 * HOLDAMEK_FRAME_SAMPLES + 2] = "(pcm ";
+    char *to = form + 5;
+    int i;
+
+    for (i = 0; i < HOLDAMEK_FRAME_SAMPLES; i++) {
+        unsigned word = (uint16_t)samples[i];
+
+        *to++ = digits[word >> 12];
+        *to++ = digits[word >> 8 & 15];
+        *to++ = digits[word >> 4 & 15];
+        *to++ = digits[word & 15];
+    }
+    memcpy(to, ")\n", 2);
+    return fwrite(form, 1, sizeof form, stdout) == sizeof form;
+}
+
+#endif

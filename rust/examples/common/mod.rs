@@ -1,0 +1,41 @@
+//! What the example programs in Rust share: tables from a file, printed forms and exit statuses.
+
+use holdamek::{Refusal, Samples, FRAME_SAMPLES};
+use std::io::{self, Write};
+use std::process::ExitCode;
+
+/// The bytes of a file. One that can't be read is refused like an empty one.
+pub fn read(path: &str) -> Vec<u8> {
+    std::fs::read(path).unwrap_or_else(|error| {
+        eprintln!("{path}: {error}");
+        Vec::new()
+    })
+}
+
+/// Four digits for each sample; a `write!` for each would take longer than decoding it.
+pub fn print(samples: &Samples, out: &mut impl Write) -> io::Result<()> {
+    let mut digits = [0; 4 * FRAME_SAMPLES];
+    for (four, sample) in digits.chunks_exact_mut(4).zip(samples) {
+        let [high, low] = sample.to_be_bytes().map(usize::from);
+        let nibbles = [high >> 4, high & 15, low >> 4, low & 15];
+        four.copy_from_slice(&nibbles.map(|nibble| b"0123456789abcdef"[nibble]));
+    }
+    out.write_all(b"(pcm ")?;
+    out.write_all(&digits)?;
+    out.write_all(b")\n")
+}
+
+/// Prints a refusal.
+pub fn refused(refusal: Refusal, line: u32, out: &mut impl Write) -> io::Result<ExitCode> {
+    writeln!(out, "(refused (code {}) (line {line}))", refusal.code())?;
+    Ok(ExitCode::from(1))
+}
+
+/// The exit status. What is still in the buffer is written here: a full disk may show only now.
+pub fn finished(program: &str, answer: io::Result<ExitCode>, out: &mut impl Write) -> ExitCode {
+    let written = answer.and_then(|code| out.flush().map(|()| code));
+    written.unwrap_or_else(|error| {
+        eprintln!("{program}: {error}");
+        ExitCode::from(2)
+    })
+}
