@@ -9,6 +9,7 @@ mod far;
 mod ffi;
 mod generate;
 mod measure;
+mod pack;
 mod proved;
 mod real;
 mod rng;
@@ -25,6 +26,7 @@ use text::FrameLine;
 
 const USAGE: &str = "usage: g729-compare [--seed N] [--frames N] [--rounds N]
        g729-compare far SEED FRAMES
+       g729-compare pack SEED N
   --seed N     of all that is drawn (1)
   --frames N   how many frames are compared, at least (200000)
   --rounds N   how often each class is timed (15); 0 leaves the measurement out";
@@ -34,15 +36,10 @@ const CALL: usize = 40;
 
 fn main() -> ExitCode {
     let args: Vec<String> = std::env::args().skip(1).collect();
-    if let [far, seed, frames] = args.as_slice()
-        && let ("far", Ok(seed), Ok(frames)) = (far.as_str(), seed.parse(), frames.parse())
+    if let [name, seed, count] = args.as_slice()
+        && let (Ok(seed), Ok(count)) = (seed.parse(), count.parse())
+        && let Some(wrong) = subcommand(name, seed, count)
     {
-        let rng = &mut Rng::new(seed);
-        let block = generate::tables(rng, "real").expect("a kind of tables");
-        let calls = frames / 100;
-        let refused = proved::refused_comparisons(rng, &block, calls);
-        println!("refusals: {calls} calls, wrong {refused}\n");
-        let wrong = refused + trials::run(seed, frames, Some(proved::comparison));
         return ExitCode::from(u8::from(wrong > 0));
     }
     let (mut seed, mut count, mut rounds) = (1, 200_000, 15);
@@ -64,6 +61,24 @@ fn main() -> ExitCode {
         measure::print(seed, rounds);
     }
     ExitCode::from(u8::from(differing > 0))
+}
+
+/// Runs what is named, and returns how much of it is wrong.
+fn subcommand(name: &str, seed: u64, count: usize) -> Option<usize> {
+    match name {
+        "far" => Some(far_decoder(seed, count)),
+        "pack" => Some(pack::run(seed, count)),
+        _ => None,
+    }
+}
+
+fn far_decoder(seed: u64, frames: usize) -> usize {
+    let rng = &mut Rng::new(seed);
+    let block = generate::tables(rng, "real").expect("a kind of tables");
+    let calls = frames / 100;
+    let refused = proved::refused_comparisons(rng, &block, calls);
+    println!("refusals: {calls} calls, wrong {refused}\n");
+    refused + trials::run(seed, frames, Some(proved::comparison))
 }
 
 /// Compares at least `count` frames over all kinds of tables, states and calls, and prints a line for each kind of

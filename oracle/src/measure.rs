@@ -123,7 +123,7 @@ impl Timed {
 }
 
 /// The processor time of this thread.
-fn seconds() -> f64 {
+pub fn seconds() -> f64 {
     #[repr(C)]
     struct Timespec {
         seconds: i64,
