@@ -30,7 +30,11 @@ pub(crate) fn print_all(tally: &[u32; 64]) {
     io::write_all(STDOUT_FILENO, b"\n");
     print_row(b"pack::write_fields, code compared ", tally, FIFTEEN);
     print_row(b"pack::write_fields, bytes compared ", tally, FIFTEEN + 1);
-    print_row(b"pack::write_fields_parity, code compared ", tally, FOURTEEN);
+    print_row(
+        b"pack::write_fields_parity, code compared ",
+        tally,
+        FOURTEEN,
+    );
     print_row(
         b"pack::write_fields_parity, bytes compared ",
         tally,

@@ -14,4 +14,4 @@ pub compare-fields-spec : {M : Type 1} → statement M
 compare-fields-spec =
     tie.close
     (tie.spec Inv-loop μ-loop (λ c. search needs) (λ c. search needs) (λ c. search needs) (λ c. search needs) (λ c κs. search needs)
-    (λ c. search needs) (λ c. search needs) (λ c. search needs) (λ c. search needs) )
+    (λ c. search needs) (λ c. search needs) (λ c. search needs) (λ c. search needs))
