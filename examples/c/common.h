@@ -50,6 +50,17 @@ static uint32_t read_tables(const char *path, int16_t tables[HOLDAMEK_TABLE_WORD
     return holdamek_table_check(tables, HOLDAMEK_TABLE_WORDS);
 }
 
+/* Runs a program on the tables of a file and a fresh state, and returns the exit status. */
+static int on_tables(const char *path, int (*run)(const int16_t *tables, int16_t *state))
+{
+    int16_t tables[HOLDAMEK_TABLE_WORDS], state[HOLDAMEK_STATE_WORDS];
+    uint32_t code = read_tables(path, tables);
+
+    if (code == HOLDAMEK_OK)
+        code = holdamek_fresh_state(tables, HOLDAMEK_TABLE_WORDS, state, HOLDAMEK_STATE_WORDS);
+    return finished(code == HOLDAMEK_OK ? run(tables, state) : refused(code, 0));
+}
+
 /* Prints the form of a frame by one fwrite; a printf for each sample would take longer than decoding it. */
 static int print_samples(const int16_t samples[HOLDAMEK_FRAME_SAMPLES])
 {

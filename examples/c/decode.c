@@ -19,7 +19,7 @@ static int read_line(char line[HOLDAMEK_LONGEST_LINE + 2])
 }
 
 /* Decodes the call, and returns the exit status. */
-static int decode(const int16_t tables[HOLDAMEK_TABLE_WORDS], int16_t state[HOLDAMEK_STATE_WORDS])
+static int decode(const int16_t *tables, int16_t *state)
 {
     int16_t samples[HOLDAMEK_FRAME_SAMPLES];
     uint8_t payload[HOLDAMEK_PAYLOAD_BYTES];
@@ -51,15 +51,9 @@ static int decode(const int16_t tables[HOLDAMEK_TABLE_WORDS], int16_t state[HOLD
 
 int main(int argc, char **argv)
 {
-    int16_t tables[HOLDAMEK_TABLE_WORDS], state[HOLDAMEK_STATE_WORDS];
-    uint32_t code;
-
     if (argc != 2) {
         fprintf(stderr, "usage: %s TABLES <call\n", argv[0]);
         return 2;
     }
-    code = read_tables(argv[1], tables);
-    if (code == HOLDAMEK_OK)
-        code = holdamek_fresh_state(tables, HOLDAMEK_TABLE_WORDS, state, HOLDAMEK_STATE_WORDS);
-    return finished(code == HOLDAMEK_OK ? decode(tables, state) : refused(code, 0));
+    return on_tables(argv[1], decode);
 }

@@ -57,7 +57,7 @@ static uint32_t write_payload(const struct step *step, uint8_t bytes[HOLDAMEK_PA
 }
 
 /* Makes, prints and decodes the traffic, and returns the exit status. */
-static int run(const int16_t tables[HOLDAMEK_TABLE_WORDS], int16_t state[HOLDAMEK_STATE_WORDS])
+static int run(const int16_t *tables, int16_t *state)
 {
     int16_t samples[HOLDAMEK_FRAME_SAMPLES];
     uint8_t payload[HOLDAMEK_PAYLOAD_BYTES], line[HOLDAMEK_LONGEST_LINE], received[HOLDAMEK_PAYLOAD_BYTES];
@@ -85,15 +85,9 @@ static int run(const int16_t tables[HOLDAMEK_TABLE_WORDS], int16_t state[HOLDAME
 
 int main(int argc, char **argv)
 {
-    int16_t tables[HOLDAMEK_TABLE_WORDS], state[HOLDAMEK_STATE_WORDS];
-    uint32_t code;
-
     if (argc != 2) {
         fprintf(stderr, "usage: %s TABLES\n", argv[0]);
         return 2;
     }
-    code = read_tables(argv[1], tables);
-    if (code == HOLDAMEK_OK)
-        code = holdamek_fresh_state(tables, HOLDAMEK_TABLE_WORDS, state, HOLDAMEK_STATE_WORDS);
-    return finished(code == HOLDAMEK_OK ? run(tables, state) : refused(code, 0));
+    return on_tables(argv[1], run);
 }
