@@ -118,7 +118,7 @@ uint32_t holdamek_fresh_state(const int16_t *tables, size_t tables_length, int16
 uint32_t holdamek_frame(const int16_t *tables, size_t tables_length, int16_t *state, size_t state_length, uint32_t kind,
                         const uint8_t *payload, size_t payload_length, int16_t *samples, size_t samples_length);
 
-/* The fifteen fields of a voice frame, in the order of their bits: L0 L1 L2 L3 P1 P0 C1 S1 GA1 GB1 P2 C2 S2 GA2 GB2. Refusals 6, 8. */
+/* The fifteen fields of a voice frame, in the order of enum holdamek_field. Refusals 6, 8. */
 uint32_t holdamek_fields(const uint8_t *bytes, size_t bytes_length, uint16_t *fields, size_t fields_length);
 
 /* Writes the ten bytes of a voice frame from its fifteen fields, the opposite of holdamek_fields: reading them returns the fields, and writing what was

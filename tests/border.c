@@ -439,6 +439,9 @@ static void of_writing_lengths(writer *write, size_t count)
     CHECK(write(NULL, 0, NULL, 0) == HOLDAMEK_RECEIVER_LENGTH);
     CHECK(write(NULL, 0, bytes, 10) == HOLDAMEK_RECEIVER_LENGTH);
     CHECK(write(fields, count, NULL, 0) == HOLDAMEK_PAYLOAD_LENGTH);
+    /* What has a wrong length isn't touched. */
+    CHECK(write(NULL, count - 1, bytes, 10) == HOLDAMEK_RECEIVER_LENGTH && write(NULL, count + 1, NULL, 10) == HOLDAMEK_RECEIVER_LENGTH);
+    CHECK(write(NULL, count, NULL, 9) == HOLDAMEK_PAYLOAD_LENGTH && write(NULL, count, NULL, 11) == HOLDAMEK_PAYLOAD_LENGTH);
     memset(fields, 0, sizeof fields);
     CHECK(refuses(write, count, 9, HOLDAMEK_PAYLOAD_LENGTH) && refuses(write, count + 1, 10, HOLDAMEK_RECEIVER_LENGTH));
 }
@@ -536,7 +539,7 @@ static void of_round_trips(void)
     CHECK(marked());
 }
 
-/* Whether a voice frame passes parity: a comparison counts from the first that does. */
+/* Whether a voice frame passes parity: a comparison counts from the first that does. Any accepted tables and far samples will do. */
 static int passes(const uint8_t *payload)
 {
     CHECK(holdamek_begin_compare(tables, HOLDAMEK_TABLE_WORDS, memory, HOLDAMEK_COMPARE_WORDS) == HOLDAMEK_OK);

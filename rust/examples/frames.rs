@@ -1,7 +1,7 @@
 //! A test bench's traffic in Rust over the library: frames TABLES >traffic. It makes voice frames from fields by name, a steady vowel
 //! whose delay grows, with a parity fault, a lost frame and one without transmission among them. Each is written as a line of a call,
 //! and the line is read back and decoded. It prints the line of each frame and behind it `(pcm H)`, or `(refused (code C) (line L))`
-//! as its last form with exit status 1. Where they can't be written it says why on standard error, with exit status 2.
+//! as its last form with exit status 1. Where standard output can't be written it says why on standard error, with exit status 2.
 
 mod common;
 

@@ -2,8 +2,8 @@
 
 use crate::{fields, write_fields, write_fields_parity, Refusal};
 
-/// The fields of a voice frame by name (G.729 Table 8), in the order of their bits. A field may hold any number: whether it is
-/// in its width shows when the frame is written.
+/// The fields of a voice frame by name (G.729 Table 8), in the order of their bits. A field may hold any number: whether it
+/// exceeds its width shows when the frame is written.
 ///
 /// ```
 /// use holdamek::{Frame, SpeechParams, LONGEST_LINE};
@@ -76,7 +76,7 @@ impl SpeechParams {
         write_fields_parity(&[l0, l1, l2, l3, p1, c1, s1, ga1, gb1, p2, c2, s2, ga2, gb2])
     }
 
-    /// By name the fields that stand in the order of their bits, as [`fields`] gives them.
+    /// The fields by name, from the fifteen in the order of their bits that [`fields`] gives.
     pub fn from_fields(fields: [u16; 15]) -> Self {
         let [l0, l1, l2, l3, p1, p0, c1, s1, ga1, gb1, p2, c2, s2, ga2, gb2] = fields;
         SpeechParams {

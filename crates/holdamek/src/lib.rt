@@ -27,7 +27,7 @@ pub extern "C" fn holdamek_fields(bytes: &[u8], receiver: &mut [u16]) -> u32
     bitstream::fields(bytes, receiver)
 }
 
-// Fifteen numbers, in the order of their bits.
+// The frame of fifteen fields, in the order of their bits, goes to `bytes`.
 #[no_mangle]
 pub extern "C" fn holdamek_write_fields(numbers: &[u16], bytes: &mut [u8]) -> u32
     ensures { λ r. ⌜ fields.answer r (now (bytes .exit)) ≡ write-fields (now (numbers .entry)) (now (bytes .entry)) ⌝ }
@@ -35,7 +35,7 @@ pub extern "C" fn holdamek_write_fields(numbers: &[u16], bytes: &mut [u8]) -> u3
     pack::write_fields(numbers, bytes)
 }
 
-// Fourteen: P0 is left out, and supplied.
+// The same of fourteen: P0 is left out, and supplied.
 #[no_mangle]
 pub extern "C" fn holdamek_write_fields_parity(numbers: &[u16], bytes: &mut [u8]) -> u32
     ensures { λ r. ⌜ fields.answer r (now (bytes .exit)) ≡ write-fields-parity (now (numbers .entry)) (now (bytes .entry)) ⌝ }

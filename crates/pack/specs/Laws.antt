@@ -9,12 +9,11 @@ use lib.Dec.{T, ltb, eqb, lit<, ltb→lt, lt→ltb}
 use lib.Pow.{pow-pos, pow-add, high, low, mod-pow-add}
 use lib.ListN.{length, getD, take, drop, drop-of-length-le, length-drop}
 use lib.Seq.{take-length, take-all, drop-cons}
-use borrow.Author.Tests.{eqb-true}
+use borrow.Author.Tests.{eq-eqb, eqb-true}
 use mir.Facts.{and-yes, yes-and}
-use Rattle.bitstream.specs.Fields.{number, bits, widths, sum, cut, fields, Answer, answer}
-use Rattle.bitstream.specs.Laws.{upper, lower, bits-lt}
+use Rattle.bitstream.specs.Fields.{number, bits, widths, sum, cut, fields, answer}
 use Rattle.bitstream.specs.declared.SpeechParams.{SpeechParams}
-use Rattle.pack.specs.Pack.{joined, fits, octets, pack, with-p0, written}
+use Rattle.pack.specs.Pack.{joined, fits, octets, pack, with-p0, packed, write-call}
 
 -- ---- numbers cut into fields of any widths
 
@@ -138,7 +137,8 @@ pub each-fits : (p : SpeechParams)
     ≡ fits widths (listed p)
 unfolding fits widths
 each-fits p =
-    bracketed (ltb (p .l0) 2) (ltb (p .l1) 128) (ltb (p .l2) 32) (ltb (p .l3) 32) (ltb (p .p1) 256) (ltb (p .p0) 2) (ltb (p .c1) 8192) (ltb (p .s1) 16) (ltb (p .ga1) 8) (ltb (p .gb1) 16) (ltb (p .p2) 32) (ltb (p .c2) 8192) (ltb (p .s2) 16) (ltb (p .ga2) 8) (ltb (p .gb2) 16)
+    bracketed (ltb (p .l0) 2) (ltb (p .l1) 128) (ltb (p .l2) 32) (ltb (p .l3) 32) (ltb (p .p1) 256) (ltb (p .p0) 2) (ltb (p .c1) 8192)
+    (ltb (p .s1) 16) (ltb (p .ga1) 8) (ltb (p .gb1) 16) (ltb (p .p2) 32) (ltb (p .c2) 8192) (ltb (p .s2) 16) (ltb (p .ga2) 8) (ltb (p .gb2) 16)
   where
     bracketed : (a b c d e f g h i j k l m n o : Bool)
         → a && b && c && d && e && f && g && h && i && j && k && l && m && n && o
@@ -171,22 +171,45 @@ cells-are (suc n) k l h =
     let e : k + 1 ≡ suc k = omega arith in
     rw (cells-are n (k + 1) l (omega arith), e, drop-cons l k 0 (omega arith))
 
--- fields that are equal where as many are lent as are due
-where-due : (n due : ℕ) (fs gs bytes : List ℕ) → (n ≡ due → fs ≡ gs) → written n due fs bytes ≡ written n due gs bytes
-unfolding written
-where-due n due fs gs bytes e = by (eqb n due) refl
+-- ---- the lengths that are tested first
+
+-- 0, or the refusal
+unfoldable pub lengths : ℕ → ℕ → ℕ → ℕ
+lengths n due bytes = cond (eqb n due) (cond (eqb bytes 10) 0 6) 8
+
+pub refused : (n due : ℕ) (fs bytes : List ℕ) → eqb (lengths n due (length bytes)) 0 ≡ false → write-call n due fs bytes ≡ answer (lengths n due (length bytes)) bytes
+unfolding lengths write-call
+refused n due fs bytes = by (eqb n due) (eqb (length bytes) 10)
   where
-    by : (q : Bool) → eqb n due ≡ q → written n due fs bytes ≡ written n due gs bytes
-    by true h = ap (λ (l : List ℕ). written n due l bytes) (e (eqb-true _ _ h))
-    by false h = rw h
+    by : (p q : Bool) → eqb (cond p (cond q 0 6) 8) 0 ≡ false → cond p (cond q (packed fs bytes) (answer 6 bytes)) (answer 8 bytes) ≡ answer (cond p (cond q 0 6) 8) bytes
+    by true true h = absurd (subst T h tt)
+    by true false h = refl
+    by false q h = refl
 
--- the fields that the code reads one by one: fifteen
-pub fifteen : (l bytes : List ℕ) → written (length l) 15 (cells 15 0 l) bytes ≡ written (length l) 15 l bytes
-fifteen l bytes = where-due (length l) 15 (cells 15 0 l) l bytes (λ h. cells-are 15 0 l (omega arith) ∙ take-all 15 l (omega arith))
+-- what is known where both are right
+pub record Right (n due : ℕ) (bytes : List ℕ) : Type 0 where
+  pub many : n ≡ due
+  pub ten : length bytes ≡ 10
 
--- and fourteen, with one more behind the fifth
-pub fourteen : (p0 : ℕ) (l bytes : List ℕ) → written (length l) 14 (cells 5 0 l ++ (p0 ∷ cells 9 5 l)) bytes ≡ written (length l) 14 (with-p0 p0 l) bytes
+pub right : (n due : ℕ) (bytes : List ℕ) → lengths n due (length bytes) ≡ 0 → Right n due bytes
+unfolding lengths
+right n due bytes = by (eqb n due) (eqb (length bytes) 10) refl refl
+  where
+    by : (p q : Bool) → eqb n due ≡ p → eqb (length bytes) 10 ≡ q → _≡_ {A = ℕ} (cond p (cond q 0 6) 8) 0 → Right n due bytes
+    by true true e f h = record { many = eqb-true _ _ e; ten = eqb-true _ _ f }
+    by true false e f h = absurd (omega arith)
+    by false q e f h = absurd (omega arith)
+
+pub taken : (n due : ℕ) (fs bytes : List ℕ) → Right n due bytes → write-call n due fs bytes ≡ packed fs bytes
+unfolding write-call
+taken n due fs bytes r = rw (eq-eqb _ _ (r .many), eq-eqb _ _ (r .ten))
+
+-- ---- the fields that the code reads one by one
+
+pub fifteen : (l : List ℕ) → length l ≡ 15 → cells 15 0 l ≡ l
+fifteen l h = cells-are 15 0 l (omega arith) ∙ take-all 15 l (omega arith)
+
+-- fourteen, with one more behind the fifth
+pub fourteen : (p0 : ℕ) (l : List ℕ) → length l ≡ 14 → cells 5 0 l ++ (p0 ∷ cells 9 5 l) ≡ with-p0 p0 l
 unfolding with-p0
-fourteen p0 l bytes =
-    where-due (length l) 14 (cells 5 0 l ++ (p0 ∷ cells 9 5 l)) (take 5 l ++ (p0 ∷ drop 5 l)) bytes
-    (λ h. rw (cells-are 5 0 l (omega arith), cells-are 9 5 l (omega arith), take-all 9 (drop 5 l) (rw length-drop (omega arith))))
+fourteen p0 l h = rw (cells-are 5 0 l (omega arith), cells-are 9 5 l (omega arith), take-all 9 (drop 5 l) (rw length-drop (omega arith)))

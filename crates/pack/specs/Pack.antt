@@ -8,7 +8,8 @@ use lib.ListN.{length, getD, take, drop}
 use Rattle.bitstream.specs.Fields.{widths, sum, cut, Answer, answer}
 use Rattle.pitch.specs.Pitch.{parity-ok}
 
--- the number that has these values as its fields of these widths, the first highest: the opposite of `cut`
+-- the number that has these values, which fit, as its fields of these widths, the first highest: the opposite of `cut`. A value that is missing counts as 0,
+-- further ones are not read.
 unfoldable pub joined : List ℕ → List ℕ → ℕ
 joined [] vs = 0
 joined (w ∷ ws) [] = 0
@@ -26,7 +27,7 @@ unfoldable pub octets : ℕ → List ℕ
 octets zero = []
 octets (suc n) = 8 ∷ octets n
 
--- the ten bytes of fifteen fields
+-- the ten bytes of fifteen fields that fit
 unfoldable pub pack : List ℕ → List ℕ
 pack fs = cut (octets 10) (joined widths fs)
 
@@ -38,22 +39,23 @@ parity-bit p1 = cond (parity-ok p1 0) 0 1
 unfoldable pub with-p0 : ℕ → List ℕ → List ℕ
 with-p0 p0 fs = take 5 fs ++ (p0 ∷ drop 5 fs)
 
--- ---- the two calls: each its number, and the lent bytes as it leaves them
+-- ---- the two calls: each its number, and the lent bytes as it leaves them. A refusal leaves them as they were.
 
--- what both do where n fields are lent and `due` are due, of which the fifteen fs are made. 8: another number of fields. 6: not ten bytes.
--- 15: a field exceeds its width. A refusal leaves the bytes as they were.
-unfoldable pub written : ℕ → ℕ → List ℕ → List ℕ → Answer
-written n due fs bytes =
+-- 15: a field exceeds its width
+unfoldable pub packed : List ℕ → List ℕ → Answer
+packed fs bytes = cond (fits widths fs) (answer 0 (pack fs)) (answer 15 bytes)
+
+-- where n fields are lent and `due` are due, of which the fifteen fs are made. 8: another number of fields. 6: not ten bytes.
+unfoldable pub write-call : ℕ → ℕ → List ℕ → List ℕ → Answer
+write-call n due fs bytes =
     cond (eqb n due)
-    (cond (eqb (length bytes) 10)
-    (cond (fits widths fs) (answer 0 (pack fs)) (answer 15 bytes))
-    (answer 6 bytes))
+    (cond (eqb (length bytes) 10) (packed fs bytes) (answer 6 bytes))
     (answer 8 bytes)
 
 -- fifteen fields
 unfoldable pub write-fields : List ℕ → List ℕ → Answer
-write-fields fs bytes = written (length fs) 15 fs bytes
+write-fields fs bytes = write-call (length fs) 15 fs bytes
 
 -- fourteen, P0 left out; it is supplied
 unfoldable pub write-fields-parity : List ℕ → List ℕ → Answer
-write-fields-parity fs bytes = written (length fs) 14 (with-p0 (parity-bit (getD fs 4 0)) fs) bytes
+write-fields-parity fs bytes = write-call (length fs) 14 (with-p0 (parity-bit (getD fs 4 0)) fs) bytes

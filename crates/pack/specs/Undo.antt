@@ -1,6 +1,6 @@
 -- Writing and reading frames undo each other, and parity: the claims of Writing.antt, proved. Assumes nothing.
 use mathlib.Core.Path.{_≡_, refl, sym, ap, _∙_, subst}
-use mathlib.Core.Bool.{Bool, true, false, cond, not, _&&_}
+use mathlib.Core.Bool.{Bool, true, false, cond, not}
 use mathlib.Core.List.{List, [], _∷_, _++_}
 use Prim.Native.Nat.{ℕ, zero, suc, _-_, _^_, _<_}
 use native.Mathlib.Omega.{arith}
@@ -9,11 +9,11 @@ use lib.ListN.{length, getD, take, drop, length-append, length-take, length-drop
 use lib.Seq.{getD-at, getD-take}
 use borrow.Author.Tests.{eq-eqb, eqb-true}
 use mir.Facts.{and-yes, yes-and}
-use Rattle.bitstream.specs.Fields.{widths, sum, cut, fields, unpack, fields-call, Answer, answer}
+use Rattle.bitstream.specs.Fields.{widths, cut, fields, unpack, fields-call, answer}
 use Rattle.bitstream.specs.Laws.{within}
 use Rattle.pitch.specs.Pitch.{parity-ok}
 use Rattle.pitch.specs.Laws.{one-passes}
-use Rattle.pack.specs.Pack.{fits, octets, pack, parity-bit, with-p0, written, write-fields, write-fields-parity}
+use Rattle.pack.specs.Pack.{fits, octets, pack, parity-bit, with-p0, packed, write-call, write-fields, write-fields-parity}
 use Rattle.pack.specs.Laws.{fields-pack, pack-fields, fields-fit}
 use Rattle.pack.specs.Writing.{passes, with-other-p0, without-p0, Writing}
 
@@ -25,8 +25,8 @@ record Wrote (n due : ℕ) (fs bytes frame : List ℕ) : Type 0 where
   pub fit : T (fits widths fs)
   pub is : frame ≡ pack fs
 
-wrote : (n due : ℕ) (fs bytes frame : List ℕ) → written n due fs bytes ≡ answer 0 frame → Wrote n due fs bytes frame
-unfolding written
+wrote : (n due : ℕ) (fs bytes frame : List ℕ) → write-call n due fs bytes ≡ answer 0 frame → Wrote n due fs bytes frame
+unfolding write-call packed
 wrote n due fs bytes frame = by (eqb n due) (eqb (length bytes) 10) (fits widths fs) refl refl refl
   where
     by : (p q r : Bool) → eqb n due ≡ p → eqb (length bytes) 10 ≡ q → fits widths fs ≡ r
@@ -37,8 +37,8 @@ wrote n due fs bytes frame = by (eqb n due) (eqb (length bytes) 10) (fits widths
     by false q r e f g h = let z : _≡_ {A = ℕ} 8 0 = cc in absurd (omega arith)
 
 -- and the other way
-writes : (n due : ℕ) (fs bytes : List ℕ) → n ≡ due → length bytes ≡ 10 → T (fits widths fs) → written n due fs bytes ≡ answer 0 (pack fs)
-unfolding written
+writes : (n due : ℕ) (fs bytes : List ℕ) → n ≡ due → length bytes ≡ 10 → T (fits widths fs) → write-call n due fs bytes ≡ answer 0 (pack fs)
+unfolding write-call packed
 writes n due fs bytes h k t = rw (eq-eqb _ _ h, eq-eqb _ _ k) (on (fits widths fs) t)
   where
     on : (q : Bool) → T q → cond q (answer 0 (pack fs)) (answer 15 bytes) ≡ answer 0 (pack fs)
@@ -90,15 +90,15 @@ octets-fit (suc n) [] h b = absurd (omega arith)
 octets-fit (suc n) (x ∷ l) h b = yes-and (ltb x 256) (fits (octets n) l) (lt→ltb x 256 (b 0)) (octets-fit n l (omega arith) (λ i. b (suc i)))
 
 -- what was read, and of what
-record Unpacked (frame receiver fs : List ℕ) : Type 0 where
+record Unpacked (frame fs : List ℕ) : Type 0 where
   pub ten : length frame ≡ 10
   pub are : fs ≡ fields frame
 
-unpacked : (frame receiver fs : List ℕ) → fields-call frame receiver ≡ answer 0 fs → Unpacked frame receiver fs
+unpacked : (frame receiver fs : List ℕ) → fields-call frame receiver ≡ answer 0 fs → Unpacked frame fs
 unfolding fields-call
 unpacked frame receiver fs = by (eqb (length frame) 10) (eqb (length receiver) 15) refl
   where
-    by : (p q : Bool) → eqb (length frame) 10 ≡ p → cond p (cond q (answer 0 (fields frame)) (answer 8 receiver)) (answer 6 receiver) ≡ answer 0 fs → Unpacked frame receiver fs
+    by : (p q : Bool) → eqb (length frame) 10 ≡ p → cond p (cond q (answer 0 (fields frame)) (answer 8 receiver)) (answer 6 receiver) ≡ answer 0 fs → Unpacked frame fs
     by true true e h = record { ten = eqb-true _ _ e; are = cc }
     by true false e h = let z : _≡_ {A = ℕ} 8 0 = cc in absurd (omega arith)
     by false q e h = let z : _≡_ {A = ℕ} 6 0 = cc in absurd (omega arith)

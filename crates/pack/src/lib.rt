@@ -2,10 +2,10 @@
 ghost use mathlib.Core.Path.{_≡_};
 ghost use mathlib.Core.List.{[], _∷_};
 ghost use Prim.Native.Nat.{_+_, _*_, _^_, _<_};
-ghost use lib.ListN.{getD, take, drop};
+ghost use lib.ListN.{length, getD, take, drop};
 ghost use Rattle.bitstream.specs.Fields.{bits, widths, cut, Answer};
-ghost use Rattle.pack.specs.Pack.{joined, fits, octets, parity-bit, written, write-fields, write-fields-parity};
-ghost use Rattle.pack.specs.Laws.{listed};
+ghost use Rattle.pack.specs.Pack.{joined, fits, octets, parity-bit, packed, write-fields, write-fields-parity};
+ghost use Rattle.pack.specs.Laws.{listed, lengths};
 use bitstream::SpeechParams;
 
 // Whether no field exceeds its width.
@@ -72,17 +72,11 @@ fn bytes_of(a: u64, b: u64) -> [u8; 10]
     ]
 }
 
-// What both calls do where `n` fields are lent and `due` are due, of which p is made: 8 for another number of fields, 6 where there are not ten bytes, 15 where a field exceeds
-// its width; else 0, and the bytes are the frame.
-fn written(n: usize, due: usize, p: SpeechParams, bytes: &mut [u8]) -> u32
-    ensures { λ r. ⌜ Answer.answer r (now (bytes .exit)) ≡ written n due (listed p) (now (bytes .entry)) ⌝ }
+// The frame of fields that fit goes to ten bytes. 15 where a field exceeds its width.
+fn packed(p: SpeechParams, bytes: &mut [u8]) -> u32
+    requires { ⌜ length (now bytes) ≡ 10 ⌝ }
+    ensures { λ r. ⌜ Answer.answer r (now (bytes .exit)) ≡ packed (listed p) (now (bytes .entry)) ⌝ }
 {
-    if n != due {
-        return 8;
-    }
-    if bytes.len() != 10 {
-        return 6;
-    }
     if !fits(p) {
         return 15;
     }
@@ -93,8 +87,21 @@ fn written(n: usize, due: usize, p: SpeechParams, bytes: &mut [u8]) -> u32
     0
 }
 
-// Number `k` of a list; 0 past its end.
-fn number(fields: &[u16], k: usize) -> u16
+// What both calls refuse before they look at any field: 8 where `n` fields are lent and not `due`, 6 where there are not ten bytes.
+fn lengths(n: usize, due: usize, bytes: usize) -> u32
+    ensures { λ r. ⌜ r ≡ lengths n due bytes ⌝ }
+{
+    if n != due {
+        return 8;
+    }
+    if bytes != 10 {
+        return 6;
+    }
+    0
+}
+
+// Field `k` of a list; 0 past its end.
+fn field(fields: &[u16], k: usize) -> u16
     ensures { λ r. ⌜ r ≡ getD (now (fields .entry)) k 0 ⌝ }
 {
     if k < fields.len() { fields[k] } else { 0 }
@@ -104,24 +111,28 @@ fn number(fields: &[u16], k: usize) -> u16
 pub fn write_fields(fields: &[u16], bytes: &mut [u8]) -> u32
     ensures { λ r. ⌜ Answer.answer r (now (bytes .exit)) ≡ write-fields (now (fields .entry)) (now (bytes .entry)) ⌝ }
 {
+    let code = lengths(fields.len(), 15, bytes.len());
+    if code != 0 {
+        return code;
+    }
     let p = SpeechParams {
-        l0: number(fields, 0),
-        l1: number(fields, 1),
-        l2: number(fields, 2),
-        l3: number(fields, 3),
-        p1: number(fields, 4),
-        p0: number(fields, 5),
-        c1: number(fields, 6),
-        s1: number(fields, 7),
-        ga1: number(fields, 8),
-        gb1: number(fields, 9),
-        p2: number(fields, 10),
-        c2: number(fields, 11),
-        s2: number(fields, 12),
-        ga2: number(fields, 13),
-        gb2: number(fields, 14),
+        l0: field(fields, 0),
+        l1: field(fields, 1),
+        l2: field(fields, 2),
+        l3: field(fields, 3),
+        p1: field(fields, 4),
+        p0: field(fields, 5),
+        c1: field(fields, 6),
+        s1: field(fields, 7),
+        ga1: field(fields, 8),
+        gb1: field(fields, 9),
+        p2: field(fields, 10),
+        c2: field(fields, 11),
+        s2: field(fields, 12),
+        ga2: field(fields, 13),
+        gb2: field(fields, 14),
     };
-    written(fields.len(), 15, p, bytes)
+    packed(p, bytes)
 }
 
 // Clause 3.7.2: the P0 with which P1 passes parity.
@@ -135,22 +146,26 @@ fn parity_bit(p1: u16) -> u16
 pub fn write_fields_parity(fields: &[u16], bytes: &mut [u8]) -> u32
     ensures { λ r. ⌜ Answer.answer r (now (bytes .exit)) ≡ write-fields-parity (now (fields .entry)) (now (bytes .entry)) ⌝ }
 {
+    let code = lengths(fields.len(), 14, bytes.len());
+    if code != 0 {
+        return code;
+    }
     let p = SpeechParams {
-        l0: number(fields, 0),
-        l1: number(fields, 1),
-        l2: number(fields, 2),
-        l3: number(fields, 3),
-        p1: number(fields, 4),
-        p0: parity_bit(number(fields, 4)),
-        c1: number(fields, 5),
-        s1: number(fields, 6),
-        ga1: number(fields, 7),
-        gb1: number(fields, 8),
-        p2: number(fields, 9),
-        c2: number(fields, 10),
-        s2: number(fields, 11),
-        ga2: number(fields, 12),
-        gb2: number(fields, 13),
+        l0: field(fields, 0),
+        l1: field(fields, 1),
+        l2: field(fields, 2),
+        l3: field(fields, 3),
+        p1: field(fields, 4),
+        p0: parity_bit(field(fields, 4)),
+        c1: field(fields, 5),
+        s1: field(fields, 6),
+        ga1: field(fields, 7),
+        gb1: field(fields, 8),
+        p2: field(fields, 9),
+        c2: field(fields, 10),
+        s2: field(fields, 11),
+        ga2: field(fields, 12),
+        gb2: field(fields, 13),
     };
-    written(fields.len(), 14, p, bytes)
+    packed(p, bytes)
 }

@@ -1,6 +1,7 @@
-// Replays the writing of frames from fields against a plain bit loop's answers. Standard input has lines of one size, W and 33 words of four hexadecimal digits: the call (0 with fifteen
-// fields, 1 with fourteen), how many fields and how many bytes are lent, sixteen numbers, the byte that all lent memory holds, the code that is due and the twelve bytes that are due then.
-// oracle/pack writes it, some rows wrong on purpose. Prints how many values were compared and differ; what is due of the first call is read back, too.
+// Replays the writing of frames from fields against a plain bit loop's answers. Standard input has lines of one size, W and 33 words of four hexadecimal
+// digits: the call (0 with fifteen fields, 1 with fourteen), how many fields and how many bytes are lent, sixteen numbers, the byte that all lent memory
+// holds, the code that is due and the twelve bytes that are due then. oracle/pack writes it, some rows wrong on purpose. Prints how many values were
+// compared and differ; what is due of the first call is read back, too.
 ghost use Prim.Native.Nat.{_≤_};
 
 mod rows;

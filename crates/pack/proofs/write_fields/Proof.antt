@@ -1,45 +1,63 @@
--- `pack::write_fields` meets its contract: the struct has the fifteen numbers that are lent.
-use mathlib.Core.Path.{ap, _∙_}
+-- `pack::write_fields` meets its contract: lengths first; then the struct has the fifteen fields that are lent.
+use mathlib.Core.Path.{sym, ap, _∙_}
 use mathlib.Core.List.{List, [], _∷_}
 use Prim.Native.Nat.{ℕ}
 use lib.ListN.{length}
 use borrow.Author.Needs.{needs}
-use Rattle.pack.specs.Pack.{written, write-fields}
-use Rattle.pack.specs.Laws.{cells, fifteen}
+use borrow.Author.Tests.{ne-eqb}
+use Rattle.pack.specs.Pack.{packed, write-fields}
+use Rattle.pack.specs.Laws.{refused, right, taken, cells, fifteen}
 use Rattle.pack.proofs.write_fields.Statement.{statement}
 use Rattle.pack.proofs.write_fields.Tie as tie
 
 returns : tie.Need-returns
-unfolding write-fields cells
+unfolding write-fields
 returns c =
+    let k = c .before in
+    let s = k .before .before .before .args in
+    rw (k .lengths .ensures) (sym (refused (length (s .fields .now)) 15 _ (s .bytes .now) (rw (← k .lengths .ensures) (ne-eqb _ _ (c .if1 .taken)))))
+
+packed-requires : tie.Need-packed-requires
+packed-requires c κs =
+    let d = c .before .before .before .before .before .before .before .before in
+    let k = d .before .before .before .before .before .before .before .before .before in
+    let s = k .before .before .before .args in
+    right (length (s .fields .now)) 15 (s .bytes .now) (sym (k .lengths .ensures) ∙ d .before .before .before .before .before .before .before .before .if1 .left) .ten
+
+returns-2 : tie.Need-returns-2
+unfolding write-fields cells
+returns-2 c =
     let e = c .before .before .before .before in
     let d = e .before .before .before .before .before .before .before in
-    let s = d .before .before .before .before .before .before .before .before .before .before .args in
-    c .before .before .written .ensures
-    ∙ ap (λ (l : List ℕ). written (length (s .fields .now)) 15 l (s .bytes .now))
+    let k = d .before .before .before .before .before .before .before .before .before in
+    let s = k .before .before .before .args in
+    let r = right (length (s .fields .now)) 15 (s .bytes .now) (sym (k .lengths .ensures) ∙ d .before .before .before .before .before .before .before .before .if1 .left) in
+    c .before .before .packed .ensures
+    ∙ ap (λ (l : List ℕ). packed l (s .bytes .now)) {y = cells 15 0 (s .fields .now)}
     (λ i.
-    (d .before .before .before .before .before .before .before .number .ensures) i
-    ∷ (d .before .before .before .before .before .before .number2 .ensures) i
-    ∷ (d .before .before .before .before .before .number3 .ensures) i
-    ∷ (d .before .before .before .before .number4 .ensures) i
-    ∷ (d .before .before .before .number5 .ensures) i
-    ∷ (d .before .before .number6 .ensures) i
-    ∷ (d .before .number7 .ensures) i
-    ∷ (d .number8 .ensures) i
-    ∷ (e .before .before .before .before .before .before .number9 .ensures) i
-    ∷ (e .before .before .before .before .before .number10 .ensures) i
-    ∷ (e .before .before .before .before .number11 .ensures) i
-    ∷ (e .before .before .before .number12 .ensures) i
-    ∷ (e .before .before .number13 .ensures) i
-    ∷ (e .before .number14 .ensures) i
-    ∷ (e .number15 .ensures) i
+    (d .before .before .before .before .before .before .before .field .ensures) i
+    ∷ (d .before .before .before .before .before .before .field2 .ensures) i
+    ∷ (d .before .before .before .before .before .field3 .ensures) i
+    ∷ (d .before .before .before .before .field4 .ensures) i
+    ∷ (d .before .before .before .field5 .ensures) i
+    ∷ (d .before .before .field6 .ensures) i
+    ∷ (d .before .field7 .ensures) i
+    ∷ (d .field8 .ensures) i
+    ∷ (e .before .before .before .before .before .before .field9 .ensures) i
+    ∷ (e .before .before .before .before .before .field10 .ensures) i
+    ∷ (e .before .before .before .before .field11 .ensures) i
+    ∷ (e .before .before .before .field12 .ensures) i
+    ∷ (e .before .before .field13 .ensures) i
+    ∷ (e .before .field14 .ensures) i
+    ∷ (e .field15 .ensures) i
     ∷ [])
-    ∙ fifteen (s .fields .now) (s .bytes .now)
+    ∙ ap (λ (l : List ℕ). packed l (s .bytes .now)) (fifteen (s .fields .now) (r .many))
+    ∙ sym (taken (length (s .fields .now)) 15 (s .fields .now) (s .bytes .now) r)
 
 pub write-fields-spec : {M : Type 1} → statement M
 write-fields-spec =
     tie.close
-    (tie.spec (λ c κs. search needs) (λ c κs. search needs) (λ c κs. search needs) (λ c κs. search needs) (λ c κs. search needs)
+    (tie.spec (λ c κs. search needs) returns (λ c κs. search needs) (λ c κs. search needs) (λ c κs. search needs) (λ c κs. search needs)
     (λ c κs. search needs) (λ c κs. search needs) (λ c κs. search needs) (λ c κs. search needs) (λ c κs. search needs) (λ c κs. search needs)
-    (λ c κs. search needs) (λ c κs. search needs) (λ c κs. search needs) (λ c κs. search needs) (λ c κs. search needs) (λ c. search needs)
-    returns)
+    (λ c κs. search needs) (λ c κs. search needs) (λ c κs. search needs) (λ c κs. search needs) (λ c κs. search needs) packed-requires
+    (λ c. search needs) returns-2)
