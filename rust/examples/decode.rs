@@ -4,8 +4,8 @@
 
 mod common;
 
-use common::{finished, print, read, refused};
-use holdamek::{Counts, Decoder, Frame, Refusal, Samples, TableBlock, LONGEST_LINE};
+use common::{on_tables, print, refused};
+use holdamek::{Counts, Decoder, Frame, Refusal, Samples, LONGEST_LINE};
 use std::io::{self, BufRead, Read, Write};
 use std::process::ExitCode;
 
@@ -14,21 +14,17 @@ fn main() -> ExitCode {
         eprintln!("usage: decode TABLES <call");
         return ExitCode::from(2);
     };
-    let mut out = io::BufWriter::new(io::stdout().lock());
-    let answer = decode(&read(&path), &mut io::stdin().lock(), &mut out);
-    finished("decode", answer, &mut out)
+    on_tables("decode", &path, |decoder, out| {
+        decode(decoder, &mut io::stdin().lock(), out)
+    })
 }
 
 /// The whole call; 0 if it ends with a total, 1 if with a refusal.
-fn decode(file: &[u8], call: &mut impl BufRead, out: &mut impl Write) -> io::Result<ExitCode> {
-    let tables = match TableBlock::from_bytes(file) {
-        Ok(tables) => tables,
-        Err(refusal) => return refused(refusal, 0, out),
-    };
-    let mut decoder = match Decoder::new(&tables) {
-        Ok(decoder) => decoder,
-        Err(refusal) => return refused(refusal, 0, out),
-    };
+fn decode(
+    decoder: &mut Decoder,
+    call: &mut impl BufRead,
+    out: &mut impl Write,
+) -> io::Result<ExitCode> {
     let mut counts = Counts::default();
     let mut line = Vec::with_capacity(LONGEST_LINE + 1);
     loop {
@@ -44,7 +40,7 @@ fn decode(file: &[u8], call: &mut impl BufRead, out: &mut impl Write) -> io::Res
             )?;
             return Ok(ExitCode::SUCCESS);
         }
-        match next(&mut decoder, &mut counts, &line) {
+        match next(decoder, &mut counts, &line) {
             Ok(samples) => print(&samples, out)?,
             Err(refusal) => return refused(refusal, counts.frames + 1, out),
         }

@@ -5,8 +5,8 @@
 
 mod common;
 
-use common::{finished, print, read, refused};
-use holdamek::{Decoder, Frame, Refusal, Samples, SpeechParams, TableBlock, LONGEST_LINE};
+use common::{on_tables, print, refused};
+use holdamek::{Decoder, Frame, Refusal, Samples, SpeechParams, LONGEST_LINE};
 use std::io::{self, Write};
 use std::process::ExitCode;
 
@@ -40,24 +40,14 @@ fn main() -> ExitCode {
         eprintln!("usage: frames TABLES");
         return ExitCode::from(2);
     };
-    let mut out = io::BufWriter::new(io::stdout().lock());
-    let answer = run(&read(&path), &mut out);
-    finished("frames", answer, &mut out)
+    on_tables("frames", &path, run)
 }
 
 /// Makes, prints and decodes the traffic; 0 if all of it, 1 if it ends with a refusal.
-fn run(file: &[u8], out: &mut impl Write) -> io::Result<ExitCode> {
-    let tables = match TableBlock::from_bytes(file) {
-        Ok(tables) => tables,
-        Err(refusal) => return refused(refusal, 0, out),
-    };
-    let mut decoder = match Decoder::new(&tables) {
-        Ok(decoder) => decoder,
-        Err(refusal) => return refused(refusal, 0, out),
-    };
+fn run(decoder: &mut Decoder, out: &mut impl Write) -> io::Result<ExitCode> {
     for (number, step) in (1..).zip(&TRAFFIC) {
         let mut room = [0; LONGEST_LINE];
-        match next(&mut decoder, step, &mut room) {
+        match next(decoder, step, &mut room) {
             Ok((line, samples)) => {
                 out.write_all(line)?;
                 out.write_all(b"\n")?;

@@ -1,11 +1,11 @@
 // A voice frame written from its fields (G.729 Table 8), the opposite of `bitstream`: fifteen numbers, or fourteen and the parity bit that is due, to ten bytes, highest bit first.
 ghost use mathlib.Core.Path.{_≡_};
-ghost use mathlib.Core.List.{[], _∷_};
-ghost use Prim.Native.Nat.{_+_, _*_, _^_, _<_};
+ghost use mathlib.Core.List.{[], _∷_, _++_};
+ghost use Prim.Native.Nat.{_+_, _*_, _^_, _≤_, _<_};
 ghost use lib.ListN.{length, getD, take, drop};
 ghost use Rattle.bitstream.specs.Fields.{bits, widths, cut, Answer};
 ghost use Rattle.pack.specs.Pack.{joined, fits, octets, parity-bit, packed, write-fields, write-fields-parity};
-ghost use Rattle.pack.specs.Laws.{listed, lengths};
+ghost use Rattle.pack.specs.Laws.{listed, cells, lengths};
 use bitstream::SpeechParams;
 
 // Whether no field exceeds its width.
@@ -107,6 +107,30 @@ fn field(fields: &[u16], k: usize) -> u16
     if k < fields.len() { fields[k] } else { 0 }
 }
 
+// The struct of fields lent in the order of their bits, with this P0; those behind it stand from place `behind` on.
+fn params(fields: &[u16], p0: u16, behind: usize) -> SpeechParams
+    requires { ⌜ behind ≤ 6 ⌝ }
+    ensures { λ r. ⌜ listed r ≡ cells 5 0 (now (fields .entry)) ++ (p0 ∷ cells 9 behind (now (fields .entry))) ⌝ }
+{
+    SpeechParams {
+        l0: field(fields, 0),
+        l1: field(fields, 1),
+        l2: field(fields, 2),
+        l3: field(fields, 3),
+        p1: field(fields, 4),
+        p0: p0,
+        c1: field(fields, behind),
+        s1: field(fields, behind + 1),
+        ga1: field(fields, behind + 2),
+        gb1: field(fields, behind + 3),
+        p2: field(fields, behind + 4),
+        c2: field(fields, behind + 5),
+        s2: field(fields, behind + 6),
+        ga2: field(fields, behind + 7),
+        gb2: field(fields, behind + 8),
+    }
+}
+
 // Writes a frame from fifteen fields, in the order of their bits. Refusals 8, 6, 15.
 pub fn write_fields(fields: &[u16], bytes: &mut [u8]) -> u32
     ensures { λ r. ⌜ Answer.answer r (now (bytes .exit)) ≡ write-fields (now (fields .entry)) (now (bytes .entry)) ⌝ }
@@ -115,24 +139,7 @@ pub fn write_fields(fields: &[u16], bytes: &mut [u8]) -> u32
     if code != 0 {
         return code;
     }
-    let p = SpeechParams {
-        l0: field(fields, 0),
-        l1: field(fields, 1),
-        l2: field(fields, 2),
-        l3: field(fields, 3),
-        p1: field(fields, 4),
-        p0: field(fields, 5),
-        c1: field(fields, 6),
-        s1: field(fields, 7),
-        ga1: field(fields, 8),
-        gb1: field(fields, 9),
-        p2: field(fields, 10),
-        c2: field(fields, 11),
-        s2: field(fields, 12),
-        ga2: field(fields, 13),
-        gb2: field(fields, 14),
-    };
-    packed(p, bytes)
+    packed(params(fields, field(fields, 5), 6), bytes)
 }
 
 // Clause 3.7.2: the P0 with which P1 passes parity.
@@ -150,22 +157,5 @@ pub fn write_fields_parity(fields: &[u16], bytes: &mut [u8]) -> u32
     if code != 0 {
         return code;
     }
-    let p = SpeechParams {
-        l0: field(fields, 0),
-        l1: field(fields, 1),
-        l2: field(fields, 2),
-        l3: field(fields, 3),
-        p1: field(fields, 4),
-        p0: parity_bit(field(fields, 4)),
-        c1: field(fields, 5),
-        s1: field(fields, 6),
-        ga1: field(fields, 7),
-        gb1: field(fields, 8),
-        p2: field(fields, 9),
-        c2: field(fields, 10),
-        s2: field(fields, 11),
-        ga2: field(fields, 12),
-        gb2: field(fields, 13),
-    };
-    packed(p, bytes)
+    packed(params(fields, parity_bit(field(fields, 4)), 5), bytes)
 }

@@ -1,11 +1,30 @@
 //! What the example programs in Rust share: tables from a file, printed forms and exit statuses.
 
-use holdamek::{Refusal, Samples, FRAME_SAMPLES};
+use holdamek::{Decoder, Refusal, Samples, TableBlock, FRAME_SAMPLES};
 use std::io::{self, Write};
 use std::process::ExitCode;
 
+/// Standard output, buffered.
+pub type Out = io::BufWriter<io::StdoutLock<'static>>;
+
+/// Runs a program on a decoder before its first frame, with the tables of a file, and returns the exit status.
+pub fn on_tables(
+    program: &str,
+    path: &str,
+    run: impl FnOnce(&mut Decoder, &mut Out) -> io::Result<ExitCode>,
+) -> ExitCode {
+    let mut out = io::BufWriter::new(io::stdout().lock());
+    let tables = TableBlock::from_bytes(&read(path));
+    let decoder = tables.as_ref().map_err(|refusal| *refusal);
+    let answer = match decoder.and_then(Decoder::new) {
+        Ok(mut decoder) => run(&mut decoder, &mut out),
+        Err(refusal) => refused(refusal, 0, &mut out),
+    };
+    finished(program, answer, &mut out)
+}
+
 /// The bytes of a file. One that can't be read is refused like an empty one.
-pub fn read(path: &str) -> Vec<u8> {
+fn read(path: &str) -> Vec<u8> {
     std::fs::read(path).unwrap_or_else(|error| {
         eprintln!("{path}: {error}");
         Vec::new()
@@ -32,7 +51,7 @@ pub fn refused(refusal: Refusal, line: u32, out: &mut impl Write) -> io::Result<
 }
 
 /// The exit status. What is still in the buffer is written here: a full disk may show only now.
-pub fn finished(program: &str, answer: io::Result<ExitCode>, out: &mut impl Write) -> ExitCode {
+fn finished(program: &str, answer: io::Result<ExitCode>, out: &mut impl Write) -> ExitCode {
     let written = answer.and_then(|code| out.flush().map(|()| code));
     written.unwrap_or_else(|error| {
         eprintln!("{program}: {error}");

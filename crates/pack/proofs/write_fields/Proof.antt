@@ -1,12 +1,12 @@
 -- `pack::write_fields` meets its contract: lengths first; then the struct has the fifteen fields that are lent.
-use mathlib.Core.Path.{sym, ap, _∙_}
-use mathlib.Core.List.{List, [], _∷_}
+use mathlib.Core.Path.{_≡_, sym, ap, _∙_}
+use mathlib.Core.List.{List, _∷_, _++_}
 use Prim.Native.Nat.{ℕ}
 use lib.ListN.{length}
 use borrow.Author.Needs.{needs}
 use borrow.Author.Tests.{ne-eqb}
 use Rattle.pack.specs.Pack.{packed, write-fields}
-use Rattle.pack.specs.Laws.{refused, right, taken, cells, fifteen}
+use Rattle.pack.specs.Laws.{listed, refused, right, taken, cells, fifteen}
 use Rattle.pack.proofs.write_fields.Statement.{statement}
 use Rattle.pack.proofs.write_fields.Tie as tie
 
@@ -19,45 +19,26 @@ returns c =
 
 packed-requires : tie.Need-packed-requires
 packed-requires c κs =
-    let d = c .before .before .before .before .before .before .before .before in
-    let k = d .before .before .before .before .before .before .before .before .before in
-    let s = k .before .before .before .args in
-    right (length (s .fields .now)) 15 (s .bytes .now) (sym (k .lengths .ensures) ∙ d .before .before .before .before .before .before .before .before .if1 .left) .ten
+    let j = c .before .before .before in
+    let s = j .before .before .before .before .args in
+    right (length (s .fields .now)) 15 (s .bytes .now) (sym (j .before .lengths .ensures) ∙ j .if1 .left) .ten
 
 returns-2 : tie.Need-returns-2
 unfolding write-fields cells
 returns-2 c =
     let e = c .before .before .before .before in
-    let d = e .before .before .before .before .before .before .before in
-    let k = d .before .before .before .before .before .before .before .before .before in
-    let s = k .before .before .before .args in
-    let r = right (length (s .fields .now)) 15 (s .bytes .now) (sym (k .lengths .ensures) ∙ d .before .before .before .before .before .before .before .before .if1 .left) in
+    let b = e .before in
+    let j = b .before in
+    let s = j .before .before .before .before .args in
+    let l = s .fields .now in
+    let r = right (length l) 15 (s .bytes .now) (sym (j .before .lengths .ensures) ∙ j .if1 .left) in
+    let m : listed (e .params .result) ≡ cells 5 0 l ++ (b .field .result ∷ cells 9 6 l) = e .params .ensures in
     c .before .before .packed .ensures
-    ∙ ap (λ (l : List ℕ). packed l (s .bytes .now)) {y = cells 15 0 (s .fields .now)}
-    (λ i.
-    (d .before .before .before .before .before .before .before .field .ensures) i
-    ∷ (d .before .before .before .before .before .before .field2 .ensures) i
-    ∷ (d .before .before .before .before .before .field3 .ensures) i
-    ∷ (d .before .before .before .before .field4 .ensures) i
-    ∷ (d .before .before .before .field5 .ensures) i
-    ∷ (d .before .before .field6 .ensures) i
-    ∷ (d .before .field7 .ensures) i
-    ∷ (d .field8 .ensures) i
-    ∷ (e .before .before .before .before .before .before .field9 .ensures) i
-    ∷ (e .before .before .before .before .before .field10 .ensures) i
-    ∷ (e .before .before .before .before .field11 .ensures) i
-    ∷ (e .before .before .before .field12 .ensures) i
-    ∷ (e .before .before .field13 .ensures) i
-    ∷ (e .before .field14 .ensures) i
-    ∷ (e .field15 .ensures) i
-    ∷ [])
-    ∙ ap (λ (l : List ℕ). packed l (s .bytes .now)) (fifteen (s .fields .now) (r .many))
-    ∙ sym (taken (length (s .fields .now)) 15 (s .fields .now) (s .bytes .now) r)
+    ∙ ap (λ (x : List ℕ). packed x (s .bytes .now)) {y = l}
+    (m ∙ ap (λ (p0 : ℕ). cells 5 0 l ++ (p0 ∷ cells 9 6 l)) (b .field .ensures) ∙ fifteen l (r .many))
+    ∙ sym (taken (length l) 15 (l) (s .bytes .now) r)
 
 pub write-fields-spec : {M : Type 1} → statement M
 write-fields-spec =
     tie.close
-    (tie.spec (λ c κs. search needs) returns (λ c κs. search needs) (λ c κs. search needs) (λ c κs. search needs) (λ c κs. search needs)
-    (λ c κs. search needs) (λ c κs. search needs) (λ c κs. search needs) (λ c κs. search needs) (λ c κs. search needs) (λ c κs. search needs)
-    (λ c κs. search needs) (λ c κs. search needs) (λ c κs. search needs) (λ c κs. search needs) (λ c κs. search needs) packed-requires
-    (λ c. search needs) returns-2)
+    (tie.spec (λ c κs. search needs) returns (λ c κs. search needs) (λ c κs. search needs) packed-requires (λ c. search needs) returns-2)
