@@ -2,9 +2,11 @@
 // A slice is a pointer and then a length in elements. Each returns 0 or the number of its refusal, which leaves all lent memory as it
 // was; what it answers beside its number goes to lent memory. include/holdamek.h says the same for C.
 ghost use mathlib.Core.Path.{_≡_};
+ghost use lib.ListN.{length};
 ghost use Rattle.tables.specs.Layout.{table-check};
 ghost use Rattle.bitstream.specs.Fields as fields;
 ghost use Rattle.pack.specs.Pack.{write-fields, write-fields-parity};
+ghost use Rattle.rtp.specs.Rtp.{frames, find};
 ghost use Rattle.state.specs.State as state;
 ghost use Rattle.agree.specs.Agree.{agree};
 ghost use Rattle.decoder.specs.Call.{frame};
@@ -41,6 +43,22 @@ pub extern "C" fn holdamek_write_fields_parity(numbers: &[u16], bytes: &mut [u8]
     ensures { λ r. ⌜ fields.answer r (now (bytes .exit)) ≡ write-fields-parity (now (numbers .entry)) (now (bytes .entry)) ⌝ }
 {
     pack::write_fields_parity(numbers, bytes)
+}
+
+// The number of frames of an RTP payload. No memory is lent for writing: what is answered beside the number is returned with it, 0 beside a refusal.
+#[no_mangle]
+pub extern "C" fn holdamek_payload_frames(payload: &[u8]) -> rtp::Counted
+    ensures { λ r. ⌜ r ≡ frames (length (now (payload .entry))) ⌝ }
+{
+    rtp::frames(payload)
+}
+
+// The kind of one of its frames, and where in the payload its bytes lie: no reference crosses this border.
+#[no_mangle]
+pub extern "C" fn holdamek_payload_frame(payload: &[u8], index: usize) -> rtp::Found
+    ensures { λ r. ⌜ r ≡ find (length (now (payload .entry))) index ⌝ }
+{
+    rtp::find(payload, index)
 }
 
 #[no_mangle]
