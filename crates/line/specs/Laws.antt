@@ -7,7 +7,7 @@ use native.Mathlib.Omega.{arith}
 use native.Mathlib.Numerals.{add-one}
 use lib.Dec.{eqb}
 use lib.ListN.{length, getD, take, drop, set, length-append, length-take, length-drop, take-append-drop}
-use lib.Seq.{getD-drop, take-suc, drop-cons, set-at, append-snoc, take-at, drop-at, drop-drop, take-all, getD-take}
+use lib.Seq.{getD-drop, take-suc, drop-cons, set-at, append-snoc, take-at, drop-at, drop-drop, take-all, take-length, getD-take}
 use borrow.Author.Tests.{eq-eqb, eqb-true, eqb-false}
 use Rattle.laws.specs.Bytes.{same, same-self, same-true, unlike, both, same-parts}
 use Rattle.laws.specs.Digits.{digit, is-digit, value, value-lt, digit-is, value-digit, high, low}
@@ -16,7 +16,7 @@ use Rattle.text.specs.Laws.{then, nothing}
 use Rattle.kind.specs.Kind.{payload-length}
 use Rattle.kind.specs.Laws.{by-kind, payload-few}
 use Rattle.line.specs.declared.Read.the-variants.{Refused, Frame}
-use Rattle.line.specs.Line.{shortest, longest, pair, hex, opening, closing, form, text, bytes, is-form, is, payload, Answer, answer, took, line}
+use Rattle.line.specs.Line.{shortest, longest, pair, hex, opening, closing, form, text, bytes, is-hex, is-form, is, payload, Answer, answer, took, line}
 
 -- whether each byte is a digit
 unfoldable pub all-digits : List ℕ → Bool
@@ -32,6 +32,19 @@ pub length-hex : (l : List ℕ) → length (hex l) ≡ 2 * length l
 unfolding hex pair
 length-hex [] = refl
 length-hex (b ∷ l) = rw (length-hex l, twice (length l))
+
+-- the digits of a part of the bytes are a part of their digits
+pub hex-take : (n : ℕ) (l : List ℕ) → hex (take n l) ≡ take (2 * n) (hex l)
+unfolding hex pair
+hex-take zero l = refl
+hex-take (suc n) [] = rw (twice n)
+hex-take (suc n) (b ∷ l) = rw (twice n, hex-take n l)
+
+pub hex-drop : (n : ℕ) (l : List ℕ) → hex (drop n l) ≡ drop (2 * n) (hex l)
+unfolding hex pair
+hex-drop zero l = refl
+hex-drop (suc n) [] = rw (twice n)
+hex-drop (suc n) (b ∷ l) = rw (twice n, hex-drop n l)
 
 pub length-bytes : (n : ℕ) (l : List ℕ) → length (bytes n l) ≡ n
 unfolding bytes
@@ -49,6 +62,22 @@ digits-all zero l h = refl
 digits-all (suc n) [] h = absurd (omega arith)
 digits-all (suc n) (a ∷ []) h = absurd (omega arith)
 digits-all (suc n) (a ∷ b ∷ l) h = rw (twice n, high (value a) (value b) (value-lt b), low (value a) (value b) (value-lt b), digit-is a, digit-is b, digits-all n l (omega arith))
+
+-- a text in hexadecimal is an even number of digits
+pub hex-odd : (l : List ℕ) → (length l % 2 ≡ 0 → ⊥) → is-hex l ≡ false
+unfolding is-hex
+hex-odd l h = unlike l (hex (bytes (length l / 2) l)) (λ e. h (let f : length l ≡ 2 * (length l / 2) = e ∙ length-hex _ ∙ rw (length-bytes (length l / 2) l) in omega arith))
+
+pub hex-even : (l : List ℕ) → length l % 2 ≡ 0 → all-digits (take (length l) (drop 0 l)) ≡ is-hex l
+unfolding is-hex
+hex-even l h =
+    let e : 2 * (length l / 2) ≡ length l = omega arith in
+    let d : same (take (length l) l) (hex (bytes (length l / 2) l)) ≡ all-digits (take (length l) l) = rw e at (digits-all (length l / 2) l (omega arith)) in
+    sym d ∙ rw (take-length l)
+
+pub hex-same : (l : List ℕ) → is-hex l ≡ true → l ≡ hex (bytes (length l / 2) l)
+unfolding is-hex
+hex-same l e = same-true l _ e
 
 pub by-parts : (o l : List ℕ) (n : ℕ) → length l ≡ length o + 2 * n + 2
     → is-form o n l ≡ cond (same (take (length o) l) o) (cond (all-digits (take (2 * n) (drop (length o) l))) (same (drop (length o + 2 * n) l) closing) false) false

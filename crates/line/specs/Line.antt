@@ -55,6 +55,10 @@ unfoldable pub bytes : ℕ → List ℕ → List ℕ
 bytes zero l = []
 bytes (suc n) l = (16 * value (getD l 0 0) + value (getD l 1 0)) ∷ bytes n (drop 2 l)
 
+-- a text is in hexadecimal where it is the digits of the bytes that are read from it
+unfoldable pub is-hex : List ℕ → Bool
+is-hex l = same l (hex (bytes (length l / 2) l))
+
 -- a line is of a form where it is the text of the bytes that are read from it
 unfoldable pub is-form : List ℕ → ℕ → List ℕ → Bool
 is-form o n l = same l (form o (bytes n (drop (length o) l)))

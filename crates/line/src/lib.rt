@@ -6,7 +6,7 @@ ghost use lib.ListN.{length, take, drop};
 ghost use Rattle.laws.specs.Bytes.{same};
 ghost use Rattle.text.specs.Text.{Put};
 ghost use Rattle.kind.specs.Kind.{payload-length};
-ghost use Rattle.line.specs.Line.{longest, pair, hex, form, text, bytes, is-form, Answer, line};
+ghost use Rattle.line.specs.Line.{longest, pair, hex, form, text, bytes, is-hex, is-form, Answer, line};
 ghost use Rattle.line.specs.Write as writing;
 ghost use Rattle.line.specs.Laws.{all-digits};
 
@@ -56,6 +56,16 @@ fn digits(text: &[u8], from: usize, n: usize) -> bool
         i += 1;
     }
     true
+}
+
+// Whether a text is two digits for each of some bytes.
+pub fn is_hex(text: &[u8]) -> bool
+    ensures { λ r. ⌜ r ≡ is-hex (now (text .entry)) ⌝ }
+{
+    if text.len() % 2 != 0 {
+        return false;
+    }
+    digits(text, 0, text.len())
 }
 
 // Whether a line is `opening`, two digits for each of `n` bytes, and `))`.

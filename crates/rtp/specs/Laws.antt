@@ -37,6 +37,14 @@ pub count-two : (n : ℕ) → n % 10 ≡ 2 → count n ≡ n / 10 + 1
 unfolding count
 count-two n h = rw (eq-eqb (n % 10) 2 h)
 
+count-most : (n : ℕ) → count n ≤ n / 10 + 1
+unfolding count
+count-most n = by (eqb (n % 10) 2)
+  where
+    by : (b : Bool) → n / 10 + cond b 1 0 ≤ n / 10 + 1
+    by true = omega arith
+    by false = omega arith
+
 -- ---- the cases of a frame: what the call answers, and why
 
 -- frame k of n bytes
@@ -74,6 +82,25 @@ within n k = by (cases n k)
     by (past e _ _) = rw e (omega arith)
     by (refused e _) = rw e (omega arith)
 
+-- the length of a part, by its kind
+pub voice-length : (n k : ℕ) → find n k .kind ≡ 0 → find n k .length ≤ 10
+voice-length n k h = by (cases n k)
+  where
+    by : Case n k → find n k .length ≤ 10
+    by (voice e _ _) = rw e (omega arith)
+    by (sid e _ _) = rw e (omega arith)
+    by (past e _ _) = rw e (omega arith)
+    by (refused e _) = rw e (omega arith)
+
+pub sid-length : (n k : ℕ) → (find n k .kind ≡ 0 → ⊥) → (find n k .kind ≡ 1) × (find n k .length ≤ 2)
+sid-length n k h = by (cases n k)
+  where
+    by : Case n k → (find n k .kind ≡ 1) × (find n k .length ≤ 2)
+    by (voice e _ _) = absurd (h (rw e))
+    by (sid e _ _) = rw e (refl, omega arith)
+    by (past e _ _) = absurd (h (rw e))
+    by (refused e _) = absurd (h (rw e))
+
 -- ---- by what `find` answers
 
 pub ends : (n k : ℕ) {r : Found} → r ≡ find n k → r .start + r .length ≤ n
@@ -101,6 +128,14 @@ frames-none n h = rw (eq-eqb (n % 10) 0 h) (λ i. record { code = 0; frames = sy
 pub frames-two : (n : ℕ) → n % 10 ≡ 2 → record { code = 0; frames = n / 10 + 1 } ≡ frames n
 unfolding frames whole
 frames-two n h = rw (ne-eqb (n % 10) 0 (omega arith), eq-eqb (n % 10) 2 h) (λ i. record { code = 0; frames = sym (count-two n h) i })
+
+pub frames-most : (n : ℕ) → frames n .frames ≤ n / 10 + 1
+unfolding frames
+frames-most n = by (whole n)
+  where
+    by : (b : Bool) → cond {A = Counted} b (record { code = 0; frames = count n }) (record { code = 12; frames = 0 }) .frames ≤ n / 10 + 1
+    by true = count-most n
+    by false = omega arith
 
 pub frames-refused : (n : ℕ) → (n % 10 ≡ 0 → ⊥) → (n % 10 ≡ 2 → ⊥) → record { code = 12; frames = 0 } ≡ frames n
 unfolding frames whole
