@@ -13,6 +13,8 @@ mod pack;
 mod proved;
 mod real;
 mod rng;
+mod rtp;
+mod rtp_compare;
 mod speech;
 mod text;
 mod trials;
@@ -27,6 +29,7 @@ use text::FrameLine;
 const USAGE: &str = "usage: g729-compare [--seed N] [--frames N] [--rounds N]
        g729-compare far SEED FRAMES
        g729-compare pack SEED N
+       g729-compare rtp SEED N
   --seed N     of all that is drawn (1)
   --frames N   how many frames are compared, at least (200000)
   --rounds N   how often each class is timed (15); 0 leaves the measurement out";
@@ -68,6 +71,7 @@ fn subcommand(name: &str, seed: u64, count: usize) -> Option<usize> {
     match name {
         "far" => Some(far_decoder(seed, count)),
         "pack" => Some(pack::run(seed, count)),
+        "rtp" => Some(rtp_compare::run(seed, count)),
         _ => None,
     }
 }

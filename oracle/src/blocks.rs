@@ -1,4 +1,4 @@
-//! Block files (words low byte first) and what makes a block accepted.
+//! Block files (words low byte first), what makes a block accepted, and the check sum of bytes.
 
 use g729::harness::{StateBlock, TableBlock};
 use std::path::Path;
@@ -44,4 +44,16 @@ pub fn read_state(path: &Path) -> Result<StateBlock, u8> {
 
 fn accepted_delay(delay: i16) -> bool {
     (19..=144).contains(&delay)
+}
+
+/// The check sum of IEEE 802.3.
+pub fn crc32(bytes: &[u8]) -> u32 {
+    let mut sum = u32::MAX;
+    for byte in bytes {
+        sum ^= u32::from(*byte);
+        for _ in 0..8 {
+            sum = sum >> 1 ^ if sum & 1 == 1 { 0xedb8_8320 } else { 0 };
+        }
+    }
+    !sum
 }

@@ -406,7 +406,7 @@ pub fn answers(input: &mut impl BufRead, out: &mut impl Write) -> Result<(), Str
                     computed = answer.computed.unwrap_or(computed);
                     (NAMES[answer.class as usize], answer.number, answer.rest)
                 };
-                let sum = crc32(&blocks::bytes(&computed));
+                let sum = blocks::crc32(&blocks::bytes(&computed));
                 writeln!(out, "{name} {number} {rest:08x} {sum:08x}")
             }
             _ => return Err("a line of another form".to_string()),
@@ -421,16 +421,4 @@ fn digits(text: &str) -> Option<Vec<i16>> {
     let groups = text.get(1..)?.as_bytes().chunks(4);
     let word = |group| Some(u16::from_str_radix(std::str::from_utf8(group).ok()?, 16).ok()? as i16);
     groups.map(word).collect()
-}
-
-/// The check sum of IEEE 802.3.
-fn crc32(bytes: &[u8]) -> u32 {
-    let mut sum = u32::MAX;
-    for byte in bytes {
-        sum ^= u32::from(*byte);
-        for _ in 0..8 {
-            sum = sum >> 1 ^ if sum & 1 == 1 { 0xedb8_8320 } else { 0 };
-        }
-    }
-    !sum
 }

@@ -11,6 +11,7 @@ mod real;
 mod replay;
 mod report;
 mod rng;
+mod rtp;
 mod selftest;
 mod speech;
 mod text;
@@ -45,7 +46,8 @@ const USAGE: &str = "usage:
   g729-oracle selftest SEED FRAMES
   g729-oracle far SEED FRAMES
   g729-oracle far-list [SEED CASES FRAMES]
-  g729-oracle far-answers";
+  g729-oracle far-answers
+  g729-oracle rtp SEED";
 
 /// Bytes that are read or written at once.
 const BUFFER: usize = 1 << 20;
@@ -123,6 +125,11 @@ fn dispatch(args: &[&str]) -> Outcome {
         ["far", seed, frames] => {
             let wrong = trials::run(number(seed)?, number(frames)?, None);
             Ok(ExitCode::from(u8::from(wrong > 0)))
+        }
+        ["rtp", seed] => {
+            let mut out = output();
+            rtp::list(&mut out, number(seed)?).map_err(io_error)?;
+            finish(out)
         }
         _ => Err(USAGE.to_string()),
     }
