@@ -64,16 +64,22 @@ pub fn list(out: &mut impl Write, seed: u64) -> io::Result<()> {
     let mut lengths: Vec<usize> = (0..=LONGEST).collect();
     lengths.extend((0..RANDOM).map(|_| any_length(&mut rng, BYTES)));
     for taken in lengths.chunks(TAKEN) {
-        let bytes = any_bytes(&mut rng, BYTES);
-        let (pairs, _) = bytes.as_chunks::<2>();
-        let words: Vec<u16> = pairs.iter().map(|pair| u16::from_le_bytes(*pair)).collect();
-        line(out, 'B', &words)?;
-        for length in taken {
-            let from = rng.below(BYTES - length + 1);
-            let answers = answers(&bytes[from..from + length]);
-            let words = [&[from as u16, *length as u16], &answers[..]].concat();
-            line(out, 'P', &words)?;
-        }
+        group(out, &mut rng, taken)?;
+    }
+    Ok(())
+}
+
+/// A B line, and payloads of these lengths.
+fn group(out: &mut impl Write, rng: &mut Rng, lengths: &[usize]) -> io::Result<()> {
+    let bytes = any_bytes(rng, BYTES);
+    let (pairs, _) = bytes.as_chunks::<2>();
+    let words: Vec<u16> = pairs.iter().map(|pair| u16::from_le_bytes(*pair)).collect();
+    line(out, 'B', &words)?;
+    for length in lengths {
+        let from = rng.below(BYTES - length + 1);
+        let answers = answers(&bytes[from..from + length]);
+        let words = [&[from as u16, *length as u16], &answers[..]].concat();
+        line(out, 'P', &words)?;
     }
     Ok(())
 }
@@ -108,12 +114,10 @@ fn answers(payload: &[u8]) -> [u16; 9] {
 
 /// Kind, place and length of each frame, four bytes each, low byte first, and its bytes.
 fn record(parts: &[Part]) -> Vec<u8> {
-    let mut record = Vec::new();
-    for part in parts {
-        for number in [part.kind, part.start as u32, part.bytes.len() as u32] {
-            record.extend(number.to_le_bytes());
-        }
-        record.extend(part.bytes);
-    }
-    record
+    let frame = |part: &Part| {
+        let numbers = [part.kind, part.start as u32, part.bytes.len() as u32];
+        let head = numbers.map(u32::to_le_bytes).concat();
+        [&head, part.bytes].concat()
+    };
+    parts.iter().flat_map(frame).collect()
 }

@@ -171,7 +171,7 @@ fn by_split(payload: &[u8]) {
     }
 }
 
-/// Prints the median time of a payload, in processor time. Both take turns.
+/// Prints the median time of a payload, in processor time.
 fn time(rng: &mut Rng) {
     println!(
         "nanoseconds a payload, all of its frames, median of {ROUNDS} rounds of {PAYLOADS} payloads, in turn"
@@ -179,14 +179,19 @@ fn time(rng: &mut Rng) {
     for frames in [2, 20] {
         let any = |_| rtp::any_bytes(rng, 10 * frames);
         let payloads: Vec<Vec<u8>> = (0..PAYLOADS).map(any).collect();
-        let mut times: [Vec<f64>; 2] = Default::default();
-        for _ in 0..ROUNDS {
-            times[0].push(turn(&payloads, by_index));
-            times[1].push(turn(&payloads, by_split));
-        }
-        let [proved, rust] = times.map(median);
+        let [proved, rust] = times(&payloads);
         println!("{frames} frames: proved {proved:.1}, Rust {rust:.1}");
     }
+}
+
+/// The times of the proved library and of the Rust, which take turns.
+fn times(payloads: &[Vec<u8>]) -> [f64; 2] {
+    let mut times: [Vec<f64>; 2] = Default::default();
+    for _ in 0..ROUNDS {
+        times[0].push(turn(payloads, by_index));
+        times[1].push(turn(payloads, by_split));
+    }
+    times.map(median)
 }
 
 fn median(mut times: Vec<f64>) -> f64 {
