@@ -31,9 +31,10 @@ fn number(sum: u32, n: u64) -> u32 {
 }
 
 // That of a frame: kind, place and length, and its bytes.
-fn record(sum: u32, kind: u32, start: usize, bytes: &[u8]) -> u32 {
-    let head = number(number(sum, kind as u64), start as u64);
-    crc32::more(number(head, bytes.len() as u64), bytes)
+fn record(sum: u32, found: rtp::Found, bytes: &[u8]) -> u32 {
+    let kind = number(sum, found.kind as u64);
+    let start = number(kind, found.start as u64);
+    crc32::more(number(start, found.length as u64), bytes)
 }
 
 // The check sum of all `n` frames. Compares their codes with that of the payload.
@@ -44,7 +45,7 @@ fn all(line: &[i16], payload: &[u8], n: usize, tally: &mut [u32; 64]) -> u32 {
     while k < n {
         let found = rtp::find(payload, k);
         tally::count(tally, rows::FRAME_CODE, found.code != due);
-        sum = record(sum, found.kind, found.start, rtp::part(payload, k));
+        sum = record(sum, found, rtp::part(payload, k));
         k += 1;
     }
     sum
