@@ -1,17 +1,19 @@
-/* Holdamek: the six operations of a G.729 voice path, the writing of lines and of voice frames, the agreement of two decoders and the comparison with a far
- * one, as C functions (x86-64 Linux; C99 or later, C++).
+/* Holdamek: the six operations of a G.729 voice path, the writing of lines and of voice frames, the frames of an RTP payload, the agreement of two decoders and
+ * the comparison with a far one, as C functions (x86-64 Linux; C99 or later, C++).
  * `rt staticlib holdamek` makes target/staticlib/libholdamek.a:  cc -Iinclude program.c target/staticlib/libholdamek.a
  * Installed (`make install`):  cc program.c $(pkg-config --cflags --libs holdamek)
  *
- * Each function returns 0 or the number of the first refusal that applies, in the order of its list below. A refusal leaves all lent
+ * Each function returns 0 or the number of the first refusal that applies, in the order of its list below. The two for RTP payloads, holdamek_payload_frames
+ * and holdamek_payload_frame, return a struct: that number is its `code`, and beside a refusal all else in it is 0. A refusal leaves all lent
  * memory as it was. Nothing is allocated, no function keeps anything between two calls, and none waits or calls the system, so
  * threads may call them at the same time, on one table block too, as long as nobody else touches the memory lent for writing. 16 KiB
  * of stack are enough (5.3 KB were measured for holdamek_frame).
  *
  * A length counts elements, not bytes. A wrong length is refused before the memory is touched; so NULL with length 0 is refused where
- * another length is due, and is right for the payload of HOLDAMEK_NO_TRANSMISSION and HOLDAMEK_ERASED.
+ * another length is due, and is right for the payload of HOLDAMEK_NO_TRANSMISSION and HOLDAMEK_ERASED. The bytes of an RTP payload are never read: it may be NULL
+ * with any length.
  *
- * What no function can notice, and the caller sees to: a pointer with a right length isn't NULL and points to that much memory of its type;
+ * What no function can notice, and the caller sees to: another pointer with a right length isn't NULL and points to that much memory of its type;
  * `kind`, `frames`, `lost`, `length`, `agreement`, `what`, `number` and `rest` are never NULL; and what is lent for writing overlaps nothing else that is lent in the
  * same call. */
 #ifndef HOLDAMEK_H
@@ -21,9 +23,9 @@
 #include <stdint.h>
 
 /* The version of header and library; the shared library has the first number in its name. */
-#define HOLDAMEK_VERSION "0.5.0"
+#define HOLDAMEK_VERSION "0.6.0"
 #define HOLDAMEK_VERSION_MAJOR 0
-#define HOLDAMEK_VERSION_MINOR 5
+#define HOLDAMEK_VERSION_MINOR 6
 #define HOLDAMEK_VERSION_PATCH 0
 
 #ifdef __cplusplus
@@ -104,7 +106,24 @@ enum holdamek_refusal {
     HOLDAMEK_LINE_FORM = 9,           /* the line isn't one of the four forms */
     HOLDAMEK_COUNT_LIMIT = 10,        /* a count is 360,000 or more already */
     HOLDAMEK_LINE_ROOM = 11,          /* the room for a line's payload isn't ten bytes */
+    HOLDAMEK_PAYLOAD_REMAINDER = 12,  /* the length of the RTP payload leaves a remainder other than 0 or 2 by ten */
+    HOLDAMEK_FRAME_INDEX = 13,        /* the index isn't below the number of frames of the RTP payload */
     HOLDAMEK_FIELD_WIDTH = 15         /* a field exceeds its width */
+};
+
+/* How many frames an RTP payload has. */
+struct holdamek_frame_count {
+    uint32_t code;                    /* 0, or the refusal */
+    size_t frames;                    /* beside a refusal 0 */
+};
+
+/* A frame of an RTP payload, as the part of the payload that it occupies: `length` bytes from payload[start] on. Beside a refusal the part is empty, and all
+ * but `code` is 0: a kind of 0 alone doesn't say that there is a voice frame. */
+struct holdamek_frame_part {
+    uint32_t code;                    /* 0, or the refusal */
+    uint32_t kind;                    /* HOLDAMEK_VOICE or HOLDAMEK_SID */
+    size_t start;
+    size_t length;                    /* HOLDAMEK_PAYLOAD_BYTES or HOLDAMEK_SID_BYTES */
 };
 
 /* Whether a table block is accepted. Refusals 1, 2. */
@@ -137,6 +156,14 @@ uint32_t holdamek_line(const uint8_t *text, size_t text_length, uint32_t *kind, 
 /* Writes the line that holdamek_line reads as this kind and payload, without a line feed, to the front of 36 bytes, of which the others stay
  * as they were, and the number of its characters to `length`. Refusals 5, 6, 7. */
 uint32_t holdamek_write_line(uint32_t kind, const uint8_t *payload, size_t payload_length, uint8_t *out, size_t out_length, size_t *length);
+
+/* The number of frames of an RTP payload (RFC 3551, section 4.5.6): voice frames of ten bytes each, then at most one SID frame of two (Annex B). The length tells
+ * it. An empty payload has 0 frames. Refusal 12. */
+struct holdamek_frame_count holdamek_payload_frames(const uint8_t *payload, size_t payload_length);
+
+/* The frame of an index, from 0, of an RTP payload: its kind, and the part of the payload that it occupies, which isn't copied. holdamek_frame and
+ * holdamek_write_line take payload + start and length with that kind. Joined in index order, the parts are the payload. Refusals 12, 13. */
+struct holdamek_frame_part holdamek_payload_frame(const uint8_t *payload, size_t payload_length, size_t index);
 
 /* Counts a frame: adds 1 to `frames`, and for kinds 1 to 3 to `lost`. Refusals 5, 10. */
 uint32_t holdamek_count(uint32_t kind, uint32_t *frames, uint32_t *lost);

@@ -1,5 +1,6 @@
 /* The border of the library, from C: every refusal of every function under its exact condition and in its order, nothing written by a
- * refusal, NULL with length 0, and the bytes beside the lent memory left alone. Exit status 0 if all checks hold. */
+ * refusal and zeros beside it where a struct is returned, NULL with length 0, and the bytes beside the lent memory left alone. Exit status 0
+ * if all checks hold. */
 #include <holdamek.h>
 #include <stdio.h>
 #include <string.h>
@@ -583,6 +584,132 @@ static void of_writing(void)
     of_parity();
 }
 
+/* Whether these are the frames of a payload of this length; of a refused one, 0. */
+static int counted(const uint8_t *payload, size_t length, uint32_t code, size_t frames)
+{
+    struct holdamek_frame_count count = holdamek_payload_frames(payload, length);
+
+    return count.code == code && count.frames == frames;
+}
+
+/* Whether this index is refused with this number, and an empty part handed back. */
+static int no_part(const uint8_t *payload, size_t length, size_t index, uint32_t code)
+{
+    struct holdamek_frame_part part = holdamek_payload_frame(payload, length, index);
+
+    return part.code == code && part.kind == 0 && part.start == 0 && part.length == 0;
+}
+
+/* Whether the frame of this index has this kind and occupies this part. */
+static int has_part(const uint8_t *payload, size_t length, size_t index, uint32_t kind, size_t start)
+{
+    struct holdamek_frame_part part = holdamek_payload_frame(payload, length, index);
+
+    return part.code == HOLDAMEK_OK && part.kind == kind && part.start == start && part.length == payload_length[kind];
+}
+
+/* Indexes that no payload has, whatever its length. Ten times one of them, taken modulo 2 to the 64, is a small number or a great one. */
+static const size_t no_index[] = {(size_t)-1 / 10 + 1, (size_t)-1 / 5 + 1, (size_t)-1 / 2, (size_t)-1 / 2 + 1, (size_t)-2, (size_t)-1};
+
+/* Whether all of them are refused with this number. */
+static int no_such(const uint8_t *payload, size_t length, uint32_t code)
+{
+    size_t n;
+
+    for (n = 0; n < sizeof no_index / sizeof *no_index; n++)
+        if (!no_part(payload, length, no_index[n], code))
+            return 0;
+    return 1;
+}
+
+/* Every index of a payload: its frames are walked one behind the other. */
+static void of_payload(const uint8_t *payload, size_t length)
+{
+    size_t n, start = 0, frames = 0;
+
+    if (length % 10 != 0 && length % 10 != 2) {
+        check(counted(payload, length, HOLDAMEK_PAYLOAD_REMAINDER, 0), "another remainder is refused, with a count of 0");
+        for (n = 0; n <= length; n++)
+            check(no_part(payload, length, n, HOLDAMEK_PAYLOAD_REMAINDER), "the remainder is tested before the index");
+        check(no_such(payload, length, HOLDAMEK_PAYLOAD_REMAINDER), "the remainder is tested before any index");
+        return;
+    }
+    for (; length - start >= 10; start += 10)
+        check(has_part(payload, length, frames++, HOLDAMEK_VOICE, start), "a voice frame is the ten bytes behind those before it");
+    if (length - start == 2)
+        check(has_part(payload, length, frames++, HOLDAMEK_SID, start), "a SID frame is the last two bytes");
+    check(counted(payload, length, HOLDAMEK_OK, frames), "the frames are counted");
+    for (n = frames; n <= length + 1; n++)
+        check(no_part(payload, length, n, HOLDAMEK_FRAME_INDEX), "an index that isn't below the count is refused");
+    check(no_such(payload, length, HOLDAMEK_FRAME_INDEX), "any such index is refused");
+}
+
+/* A great length, which no memory has: its first and last frames. */
+static void of_great_payload(size_t length)
+{
+    size_t tens = length / 10, over = length % 10;
+
+    if (over != 0 && over != 2) {
+        check(counted(NULL, length, HOLDAMEK_PAYLOAD_REMAINDER, 0) && no_part(NULL, length, 0, HOLDAMEK_PAYLOAD_REMAINDER) &&
+                  no_part(NULL, length, tens + 1, HOLDAMEK_PAYLOAD_REMAINDER) && no_such(NULL, length, HOLDAMEK_PAYLOAD_REMAINDER),
+              "another remainder of a great length is refused");
+        return;
+    }
+    check(counted(NULL, length, HOLDAMEK_OK, tens + over / 2), "the frames of a great length are counted");
+    check(has_part(NULL, length, 0, HOLDAMEK_VOICE, 0), "the first frame of a great length");
+    check(has_part(NULL, length, tens - 1, HOLDAMEK_VOICE, 10 * (tens - 1)), "the last voice frame of a great length");
+    check(over == 2 ? has_part(NULL, length, tens, HOLDAMEK_SID, length - 2) : no_part(NULL, length, tens, HOLDAMEK_FRAME_INDEX),
+          "what is behind the voice frames of a great length");
+    check(no_part(NULL, length, tens + 1, HOLDAMEK_FRAME_INDEX) && no_such(NULL, length, HOLDAMEK_FRAME_INDEX),
+          "an index behind a great length is refused");
+}
+
+enum { MORE_PAYLOAD = 400 };
+
+/* Whether the parts of a payload of this length, joined in index order, are the payload. */
+static int joined(const uint8_t *payload, size_t length)
+{
+    uint8_t parts[MORE_PAYLOAD];
+    size_t n, frames = holdamek_payload_frames(payload, length).frames, at = 0;
+
+    for (n = 0; n < frames; n++) {
+        struct holdamek_frame_part part = holdamek_payload_frame(payload, length, n);
+
+        if (part.length > sizeof parts - at || part.start > length || part.length > length - part.start)
+            return 0;
+        memcpy(parts + at, payload + part.start, part.length);
+        at += part.length;
+    }
+    return at == length && memcmp(parts, payload, length) == 0;
+}
+
+/* Payloads of every length up to 400, in memory and as NULL, with every index, and of great lengths. */
+static void of_payloads(void)
+{
+    static const size_t great[] = {(size_t)1 << 31, (size_t)1 << 32, (size_t)1 << 33, (size_t)-1 / 10, (size_t)-1 / 2};
+    uint8_t payload[MORE_PAYLOAD], before[MORE_PAYLOAD];
+    size_t n, k;
+
+    for (n = 0; n < sizeof payload; n++)
+        payload[n] = before[n] = (uint8_t)(n * 7 + n / 256);
+    for (n = 0; n <= sizeof payload; n++) {
+        of_payload(payload, n);
+        of_payload(NULL, n);
+        if (n % 10 == 0 || n % 10 == 2)
+            check(joined(payload, n), "the parts are the payload");
+    }
+    CHECK(counted(NULL, 0, HOLDAMEK_OK, 0) && no_part(NULL, 0, 0, HOLDAMEK_FRAME_INDEX));
+    CHECK(no_part(payload, 15, 1, HOLDAMEK_PAYLOAD_REMAINDER) && no_part(payload, 15, 2, HOLDAMEK_PAYLOAD_REMAINDER));
+    CHECK(has_part(payload, 22, 2, HOLDAMEK_SID, 20) && no_part(payload, 22, 3, HOLDAMEK_FRAME_INDEX));
+    for (k = 0; k <= 40; k++) {
+        for (n = 0; n < sizeof great / sizeof *great; n++)
+            of_great_payload(great[n] - 20 + k);
+        of_great_payload((size_t)-1 - k);
+    }
+    CHECK(counted(NULL, (size_t)-1, HOLDAMEK_PAYLOAD_REMAINDER, 0) && no_part(NULL, (size_t)-1, (size_t)-1, HOLDAMEK_PAYLOAD_REMAINDER));
+    CHECK(memcmp(payload, before, sizeof payload) == 0);
+}
+
 int main(void)
 {
     size_t n;
@@ -605,6 +732,7 @@ int main(void)
     of_compare_refusals();
     of_compare();
     of_writing();
+    of_payloads();
     CHECK(tables[HOLDAMEK_TABLE_WORDS] == MARK);
     printf("border: %d checks, %d failed\n", checks, failed);
     return failed != 0;
