@@ -4,7 +4,25 @@
 //! All are safe for the same reasons: a slice's pointer and length describe memory that is its own, references are never null,
 //! what is lent by `&mut` overlaps nothing else, and the functions keep no pointer.
 
+/// struct holdamek_frame_count.
+#[repr(C)]
+pub struct FrameCount {
+    pub code: u32,
+    pub frames: usize,
+}
+
+/// struct holdamek_frame_part.
+#[repr(C)]
+pub struct FramePart {
+    pub code: u32,
+    pub kind: u32,
+    pub start: usize,
+    pub length: usize,
+}
+
 mod c {
+    use super::{FrameCount, FramePart};
+
     unsafe extern "C" {
         pub fn holdamek_table_check(t: *const i16, t_len: usize) -> u32;
         pub fn holdamek_fresh_state(t: *const i16, t_len: usize, b: *mut i16, b_len: usize) -> u32;
@@ -47,6 +65,12 @@ mod c {
             out_len: usize,
             length: *mut usize,
         ) -> u32;
+        pub fn holdamek_payload_frames(payload: *const u8, payload_len: usize) -> FrameCount;
+        pub fn holdamek_payload_frame(
+            payload: *const u8,
+            payload_len: usize,
+            index: usize,
+        ) -> FramePart;
         pub fn holdamek_count(kind: u32, frames: *mut u32, lost: *mut u32) -> u32;
         pub fn holdamek_agree(
             a: *const i16,
@@ -149,6 +173,16 @@ pub fn write_line(kind: u32, payload: &[u8], out: &mut [u8], length: &mut usize)
             length,
         )
     }
+}
+
+pub fn payload_frames(payload: &[u8]) -> FrameCount {
+    // SAFETY: see the head of this file.
+    unsafe { c::holdamek_payload_frames(payload.as_ptr(), payload.len()) }
+}
+
+pub fn payload_frame(payload: &[u8], index: usize) -> FramePart {
+    // SAFETY: see the head of this file.
+    unsafe { c::holdamek_payload_frame(payload.as_ptr(), payload.len(), index) }
 }
 
 pub fn count(kind: u32, frames: &mut u32, lost: &mut u32) -> u32 {

@@ -3,7 +3,8 @@
 //! A [`TableBlock`] holds your licensed tables, checked. A [`Decoder`] takes one [`Frame`] after another and gives the 80
 //! samples of each before the postfilter. Its [`StateBlock`] can be saved between any two frames and resumed later, here or on
 //! another machine. [`Frame::parse`] reads a line of a call, [`Frame::write`] writes it, and [`Counts`] counts its frames.
-//! [`SpeechParams`] has the fields of a voice frame by name, read from its ten bytes or to be written as these.
+//! [`SpeechParams`] has the fields of a voice frame by name, read from its ten bytes or to be written as these. [`PayloadFrames`]
+//! takes an RTP payload apart, without copying.
 //! [`StateBlock::agreement`] tells how far two decoders agree from here on. A [`Comparison`] tells of a far decoder's samples
 //! whether a decoder of the same frames makes them, whatever its past.
 //!
@@ -26,10 +27,12 @@
 mod ffi;
 
 mod comparison;
+mod payload;
 mod refusal;
 mod speech_params;
 
 pub use comparison::{Compared, Comparison, COMPARE_WORDS};
+pub use payload::{payload_frame, payload_frames, PayloadFrame, PayloadFrames};
 pub use refusal::Refusal;
 pub use speech_params::SpeechParams;
 

@@ -28,14 +28,18 @@ pub enum Refusal {
     CountLimit,
     /// 11: the room for a line's payload isn't ten bytes.
     LineRoom,
+    /// 12: the length of the RTP payload leaves a remainder other than 0 or 2 by ten.
+    PayloadRemainder,
+    /// 13: the index isn't below the number of frames of the RTP payload.
+    FrameIndex,
     /// 15: a field exceeds its width.
     FieldWidth,
     /// A number that this version of the crate doesn't know.
     Other(u32),
 }
 
-/// The refusals with their numbers, 1 to 11 and 15, and their texts.
-const NUMBERED: [(u32, Refusal, &str); 12] = [
+/// The refusals with their numbers, 1 to 13 and 15, and their texts.
+const NUMBERED: [(u32, Refusal, &str); 14] = [
     (1, Refusal::TableLength, "the table block isn't 1,880 words"),
     (
         2,
@@ -66,6 +70,16 @@ const NUMBERED: [(u32, Refusal, &str); 12] = [
         11,
         Refusal::LineRoom,
         "the room for a line's payload isn't ten bytes",
+    ),
+    (
+        12,
+        Refusal::PayloadRemainder,
+        "the length of the RTP payload leaves a remainder other than 0 or 2 by ten",
+    ),
+    (
+        13,
+        Refusal::FrameIndex,
+        "the index isn't below the number of frames of the RTP payload",
     ),
     (15, Refusal::FieldWidth, "a field exceeds its width"),
 ];
@@ -110,7 +124,7 @@ fn every_number_comes_back() {
     for code in (1..20).chain([u32::MAX]) {
         let refusal = Refusal::check(code).unwrap_err();
         assert_eq!(refusal.code(), code);
-        let known = code <= 11 || code == 15;
+        let known = code <= 13 || code == 15;
         assert_eq!(matches!(refusal, Refusal::Other(_)), !known);
     }
 }

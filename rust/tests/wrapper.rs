@@ -1,8 +1,9 @@
-//! The wrapper over the example files: samples, saving and resuming, the writing of frames, the agreement of two decoders, the comparison with a far one, every refusal that its types leave.
+//! The wrapper over the example files: samples, saving and resuming, the writing of frames, the frames of RTP payloads, the agreement of two decoders, the comparison with a far one, every refusal that its types leave.
 
 use holdamek::{
-    fields, write_fields, write_fields_parity, Agreement, Compared, Comparison, Counts, Decoder,
-    Frame, Refusal, SpeechParams, StateBlock, TableBlock,
+    fields, payload_frame, payload_frames, write_fields, write_fields_parity, Agreement, Compared,
+    Comparison, Counts, Decoder, Frame, PayloadFrame, PayloadFrames, Refusal, SpeechParams,
+    StateBlock, TableBlock,
 };
 use holdamek::{COMPARE_WORDS, LONGEST_LINE, MOST_FRAMES, STATE_WORDS, TABLE_WORDS};
 
@@ -367,6 +368,144 @@ fn parity_passes_with_the_supplied_p0_alone() {
     }
 }
 
+/// Bytes that tell their place.
+fn bytes(length: usize) -> Vec<u8> {
+    (0..length).map(|n| (n * 7 + n / 256) as u8).collect()
+}
+
+/// The parts of a payload, as RFC 3551 has them: tens while there are ten, then two; nothing else may be left.
+fn parts(mut payload: &[u8]) -> Option<Vec<&[u8]>> {
+    let mut parts = Vec::new();
+    while payload.len() >= 10 {
+        let (part, behind) = payload.split_at(10);
+        parts.push(part);
+        payload = behind;
+    }
+    match payload.len() {
+        0 => {}
+        2 => parts.push(payload),
+        _ => return None,
+    }
+    Some(parts)
+}
+
+/// Indexes that no payload has; ten times some of them, or a little more, overflows.
+const NO_INDEX: [usize; 6] = [
+    usize::MAX / 10 + 1,
+    usize::MAX / 5 + 1,
+    usize::MAX / 2,
+    usize::MAX / 2 + 1,
+    usize::MAX - 1,
+    usize::MAX,
+];
+
+#[test]
+fn payloads_of_every_length_have_their_frames() {
+    for length in (0..=200).chain([65_532, 65_535, 1_000_002]) {
+        let payload = bytes(length);
+        let indexes = (0..length + 2).chain(NO_INDEX);
+        let Some(due) = parts(&payload) else {
+            // The remainder comes first, whatever the index.
+            let refused = Refusal::PayloadRemainder;
+            assert!(![0, 2].contains(&(length % 10)));
+            assert_eq!(payload_frames(&payload), Err(refused));
+            assert_eq!(PayloadFrames::new(&payload).err(), Some(refused));
+            for index in indexes {
+                assert_eq!(payload_frame(&payload, index), Err(refused));
+            }
+            continue;
+        };
+        assert_eq!(payload_frames(&payload), Ok(due.len()));
+        for index in indexes {
+            let frame = payload_frame(&payload, index);
+            let Some(part) = due.get(index) else {
+                assert_eq!(frame, Err(Refusal::FrameIndex));
+                continue;
+            };
+            let frame = frame.unwrap();
+            assert_eq!(frame.kind(), u32::from(part.len() == 2));
+            assert_eq!(frame.bytes(), *part);
+            // It is that part of the payload itself.
+            assert_eq!(frame.bytes().as_ptr_range(), part.as_ptr_range());
+        }
+    }
+}
+
+#[test]
+fn the_frames_of_a_payload_are_the_payload() {
+    for length in (0..=200).filter(|n| [0, 2].contains(&(n % 10))) {
+        let payload = bytes(length);
+        let frames = PayloadFrames::new(&payload).unwrap();
+        assert_eq!(Ok(frames.len()), payload_frames(&payload));
+        let forwards: Vec<_> = frames.clone().collect();
+        let joined: Vec<u8> = forwards.iter().flat_map(|f| f.bytes()).copied().collect();
+        assert_eq!(joined, payload);
+        for (index, frame) in forwards.iter().enumerate() {
+            assert_eq!(payload_frame(&payload, index), Ok(*frame));
+            assert_eq!(frames.clone().nth(index), Some(*frame));
+        }
+        let mut backwards: Vec<_> = frames.clone().rev().collect();
+        backwards.reverse();
+        assert_eq!(backwards, forwards);
+        // From both ends by turns: each frame once, and then no more.
+        let (mut both, mut ends) = (frames.clone(), (Vec::new(), Vec::new()));
+        for left in (0..frames.len()).rev() {
+            match left % 2 {
+                0 => ends.0.extend(both.next()),
+                _ => ends.1.extend(both.next_back()),
+            }
+            assert_eq!((both.len(), both.size_hint()), (left, (left, Some(left))));
+        }
+        ends.0.extend(ends.1.iter().rev());
+        assert_eq!(ends.0, forwards);
+        for _ in 0..2 {
+            assert_eq!((both.next(), both.next_back()), (None, None));
+        }
+        for index in NO_INDEX {
+            assert_eq!(frames.clone().nth(index), None);
+        }
+    }
+}
+
+#[test]
+fn frames_outlive_their_iterator() {
+    let payload = bytes(22);
+    let last = {
+        let mut frames = PayloadFrames::new(&payload).unwrap();
+        frames.next_back()
+    };
+    assert_eq!(last, Some(PayloadFrame::Sid(&[payload[20], payload[21]])));
+}
+
+#[test]
+fn frames_of_payloads_are_decoded() {
+    let tables = tables();
+    let (mut whole, mut by_payloads) = (
+        Decoder::new(&tables).unwrap(),
+        Decoder::new(&tables).unwrap(),
+    );
+    let received: Vec<_> = call().into_iter().filter(|f| f.kind() < 2).collect();
+    // A payload ends behind each SID frame, and behind three frames.
+    let mut frames = &received[..];
+    while !frames.is_empty() {
+        let sid = frames.iter().position(|f| f.kind() == 1);
+        let (sent, behind) = frames.split_at(sid.map_or(3, |n| n + 1).min(3).min(frames.len()));
+        frames = behind;
+        let payload: Vec<u8> = sent.iter().flat_map(|f| f.payload()).copied().collect();
+        let parts = PayloadFrames::new(&payload).unwrap();
+        assert_eq!(parts.len(), sent.len());
+        for (part, due) in parts.zip(sent) {
+            let frame = Frame::from(part);
+            assert_eq!(frame, *due);
+            assert_eq!((part.kind(), part.bytes()), (due.kind(), due.payload()));
+            assert_eq!(by_payloads.decode(&part.into()), whole.decode(due));
+            let (mut line, mut due_line) = ([0; LONGEST_LINE], [0; LONGEST_LINE]);
+            assert_eq!(frame.write(&mut line), due.write(&mut due_line));
+        }
+    }
+    assert_eq!(by_payloads.state(), whole.state());
+}
+
 #[test]
 fn a_call_has_a_limit() {
     let mut counts = Counts {
@@ -386,6 +525,8 @@ fn a_call_has_a_limit() {
 #[test]
 fn refusals_have_their_numbers() {
     assert_eq!(Refusal::CountLimit.code(), 10);
+    assert_eq!(Refusal::PayloadRemainder.code(), 12);
+    assert_eq!(Refusal::FrameIndex.code(), 13);
     assert_eq!(Refusal::FieldWidth.code(), 15);
     assert_eq!(
         Refusal::LineForm.to_string(),
