@@ -4,7 +4,7 @@
  * Installed (`make install`):  cc program.c $(pkg-config --cflags --libs holdamek)
  *
  * Each function returns 0 or the number of the first refusal that applies, in the order of its list below. The two for RTP payloads, holdamek_payload_frames
- * and holdamek_payload_frame, return a struct: that number is its `code`, and beside a refusal all else in it is 0. A refusal leaves all lent
+ * and holdamek_payload_frame, return a struct: that number is its `code`, and beside a refusal its other members are 0. A refusal leaves all lent
  * memory as it was. Nothing is allocated, no function keeps anything between two calls, and none waits or calls the system, so
  * threads may call them at the same time, on one table block too, as long as nobody else touches the memory lent for writing. 16 KiB
  * of stack are enough (5.3 KB were measured for holdamek_frame).
@@ -13,7 +13,7 @@
  * another length is due, and is right for the payload of HOLDAMEK_NO_TRANSMISSION and HOLDAMEK_ERASED. The bytes of an RTP payload are never read: it may be NULL
  * with any length.
  *
- * What no function can notice, and the caller sees to: another pointer with a right length isn't NULL and points to that much memory of its type;
+ * What no function can notice, and the caller sees to: any other pointer with a right length isn't NULL and points to that much memory of its type;
  * `kind`, `frames`, `lost`, `length`, `agreement`, `what`, `number` and `rest` are never NULL; and what is lent for writing overlaps nothing else that is lent in the
  * same call. */
 #ifndef HOLDAMEK_H
