@@ -1,6 +1,7 @@
 //! The proved reading of RTP payloads beside the Rust's `split_rtp`: the number of frames, every frame by its index, and indexes that are too high.
 //! Then the time of a payload.
 
+use crate::ffi;
 use crate::measure::seconds;
 use crate::rng::Rng;
 use crate::rtp::{self, INDEX, LENGTH, LONGEST};
@@ -25,39 +26,15 @@ const TOO_HIGH: [usize; 9] = [
     usize::MAX,
 ];
 
-mod c {
-    #[repr(C)]
-    pub struct FrameCount {
-        pub code: u32,
-        pub frames: usize,
-    }
-
-    #[repr(C)]
-    pub struct FramePart {
-        pub code: u32,
-        pub kind: u32,
-        pub start: usize,
-        pub length: usize,
-    }
-
-    unsafe extern "C" {
-        pub fn holdamek_payload_frames(payload: *const u8, length: usize) -> FrameCount;
-        pub fn holdamek_payload_frame(payload: *const u8, length: usize, index: usize)
-        -> FramePart;
-    }
-}
-
 /// Code and number of frames.
 fn count(payload: &[u8]) -> (u32, usize) {
-    // SAFETY: pointer and length are those of a slice, and no pointer is kept.
-    let found = unsafe { c::holdamek_payload_frames(payload.as_ptr(), payload.len()) };
+    let found = ffi::payload_frames(payload);
     (found.code, found.frames)
 }
 
 /// Code, kind, place and length of a frame.
 fn frame(payload: &[u8], index: usize) -> (u32, u32, usize, usize) {
-    // SAFETY: pointer and length are those of a slice, and no pointer is kept.
-    let found = unsafe { c::holdamek_payload_frame(payload.as_ptr(), payload.len(), index) };
+    let found = ffi::payload_frame(payload, index);
     (found.code, found.kind, found.start, found.length)
 }
 

@@ -7,7 +7,6 @@ ghost use Prim.Native.Nat.{_+_, _≤_, _<_};
 ghost use lib.Dec.{eqb, ltb};
 ghost use lib.ListN.{length, take};
 ghost use Rattle.read_step.specs.Reading.{input-room};
-use libc::STDIN_FILENO;
 use print::FORM_ROOM;
 use read_step::INPUT;
 use read_step::OUTPUT;
@@ -128,24 +127,6 @@ fn decode(t: &[i16; 1880], b: &mut [i16; 234], fd: i32, name: &[u8]) {
     }
 }
 
-// The call: the file of this name, or standard input, which may be a terminal. Below 0, with a message, where the file can't be opened.
-fn open(given: bool, name: &[u8]) -> i32 {
-    if given {
-        let fd = os::open_read(name);
-        if fd < 0 {
-            os::fail(name);
-        }
-        return fd;
-    }
-    if libc::isatty(STDIN_FILENO) == 1 {
-        files::say(
-            b"decode",
-            b"reading a call from the terminal; end it with Ctrl-D (decode --help tells more)",
-        );
-    }
-    STDIN_FILENO
-}
-
 // The tables are checked before the call is opened.
 fn run(tables: &[u8], given: bool, name: &[u8]) {
     let mut t = [0i16; 1880];
@@ -157,7 +138,12 @@ fn run(tables: &[u8], given: bool, name: &[u8]) {
         files::print(&form, n);
         return;
     }
-    let fd = open(given, name);
+    let fd = files::input(
+        given,
+        name,
+        b"decode",
+        b"reading a call from the terminal; end it with Ctrl-D (decode --help tells more)",
+    );
     if 0 <= fd {
         decode(&t, &mut b, fd, name);
     }

@@ -9,6 +9,7 @@ ghost use Rattle.call.specs.Chunk.{Begun, begin};
 mod path;
 
 use libc::STDERR_FILENO;
+use libc::STDIN_FILENO;
 use libc::STDOUT_FILENO;
 use options::Asked;
 pub use path::Seen;
@@ -46,6 +47,21 @@ pub fn write(text: &[u8]) -> bool {
         os::fail(b"standard output");
     }
     done
+}
+
+// What a program reads: the file of this name, or standard input, which may be a terminal: then it is said what is awaited. Below 0, with a message, where the file can't be opened.
+pub fn input(given: bool, name: &[u8], program: &[u8], awaited: &[u8]) -> i32 {
+    if given {
+        let fd = os::open_read(name);
+        if fd < 0 {
+            os::fail(name);
+        }
+        return fd;
+    }
+    if libc::isatty(STDIN_FILENO) == 1 {
+        say(program, awaited);
+    }
+    STDIN_FILENO
 }
 
 // The first n bytes of a form, on standard output.

@@ -1,6 +1,6 @@
-// The operations of 01 for other languages, the writing of frames and lines, the agreement of two decoders and the comparison with a far one: C functions over pointers and lengths, each the proved function of its crate.
+// The operations of 01 for other languages, the writing of frames and lines, the frames of RTP payloads, the agreement of two decoders and the comparison with a far one: C functions over pointers and lengths, each the proved function of its crate.
 // A slice is a pointer and then a length in elements. Each returns 0 or the number of its refusal, which leaves all lent memory as it
-// was; what it answers beside its number goes to lent memory. include/holdamek.h says the same for C.
+// was; what it answers beside its number goes to lent memory. The two for RTP payloads return a struct of both. include/holdamek.h says the same for C.
 ghost use mathlib.Core.Path.{_≡_};
 ghost use lib.ListN.{length};
 ghost use Rattle.tables.specs.Layout.{table-check};
@@ -47,7 +47,7 @@ pub extern "C" fn holdamek_write_fields_parity(numbers: &[u16], bytes: &mut [u8]
 
 // The number of frames of an RTP payload. No memory is lent for writing: what is answered beside the number is returned with it, 0 beside a refusal.
 #[no_mangle]
-pub extern "C" fn holdamek_payload_frames(payload: &[u8]) -> rtp::Counted
+pub extern "C" fn holdamek_payload_frames(payload: &[u8]) -> rtp::FrameCount
     ensures { λ r. ⌜ r ≡ frames (length (now (payload .entry))) ⌝ }
 {
     rtp::frames(payload)
@@ -55,7 +55,7 @@ pub extern "C" fn holdamek_payload_frames(payload: &[u8]) -> rtp::Counted
 
 // The kind of one of its frames, and where in the payload its bytes lie: no reference crosses this border.
 #[no_mangle]
-pub extern "C" fn holdamek_payload_frame(payload: &[u8], index: usize) -> rtp::Found
+pub extern "C" fn holdamek_payload_frame(payload: &[u8], index: usize) -> rtp::FramePart
     ensures { λ r. ⌜ r ≡ find (length (now (payload .entry))) index ⌝ }
 {
     rtp::find(payload, index)

@@ -1,11 +1,10 @@
 -- Laws of a payload text's lines: the digits of a frame are a part of the line, and what each test of the code says. Assumes nothing.
 use mathlib.Core.Path.{_≡_, refl, sym, ap, subst, _∙_}
 use mathlib.Core.Bool.{Bool, true, false, cond, _||_}
-use mathlib.Core.List.{List, [], _∷_, _++_, append-assoc}
-use Prim.Native.Nat.{ℕ, zero, suc, _+_, _-_, _*_, _/_, _≤_, _<_}
+use mathlib.Core.List.{List, _++_, append-assoc}
+use Prim.Native.Nat.{ℕ, _+_, _-_, _*_, _/_, _≤_, _<_}
 use native.Mathlib.Omega.{arith}
 use native.Mathlib.Numerals.{add-one}
-use lib.Dec.{eqb}
 use lib.ListN.{length, take, drop, length-append, length-take, length-drop}
 use lib.Seq.{take-append-seam}
 use borrow.Author.Tests.{eq-eqb, ne-eqb, lt-ltb, le-ltb}
@@ -14,11 +13,11 @@ use Rattle.text.specs.Laws.{then, nothing}
 use Rattle.line.specs.declared.Read.the-variants.{Refused, Frame}
 use Rattle.line.specs.Line as Line
 use Rattle.line.specs.Line.{hex, opening, closing, form, text, bytes, is-hex, is, took, line}
-use Rattle.line.specs.Laws.{hex-take, hex-drop, hex-same, length-hex, length-bytes}
+use Rattle.line.specs.Laws.{hex-take, hex-drop, hex-same, length-bytes}
 use Rattle.print.specs.Laws.{front}
 use Rattle.print.specs.Print.{over}
-use Rattle.rtp.specs.declared.Counted.{Counted}
-use Rattle.rtp.specs.declared.Found.{Found}
+use Rattle.rtp.specs.declared.FrameCount.{FrameCount}
+use Rattle.rtp.specs.declared.FramePart.{FramePart}
 use Rattle.rtp.specs.Rtp.{frames, find, part}
 use Rattle.rtp.specs.Laws.{within, voice-length, sid-length, frames-most}
 use Rattle.payload_line.specs.PayloadLine.{longest, room, refusal, ended, frame-line, frame-lines, payload, of-payload, is-line, payload-line, Printed, Answer, answer, given}
@@ -26,7 +25,7 @@ use Rattle.payload_line.specs.PayloadLine.{longest, room, refusal, ended
 -- ---- a frame's digits
 
 -- what lies in the payload lies in its digits, at twice the place
-pub frame-digits : (t : List ℕ) (k : ℕ) {r : Found} → is-hex t ≡ true → r ≡ find (length t / 2) k
+pub frame-digits : (t : List ℕ) (k : ℕ) {r : FramePart} → is-hex t ≡ true → r ≡ find (length t / 2) k
     → take (2 * r .start + 2 * r .length - 2 * r .start) (drop (2 * r .start) t) ≡ hex (part (payload t) k)
 unfolding part payload
 frame-digits t k {r} h e =
@@ -37,7 +36,7 @@ frame-digits t k {r} h e =
     sym (hex-take (r .length) (drop (r .start) l) ∙ ap (take (2 * r .length)) (hex-drop (r .start) l)) in
     rw m (ap (λ (x : List ℕ). take (2 * r .length) (drop (2 * r .start) x)) (hex-same t h) ∙ d ∙ rw (n, e))
 
-pub digits-within : (t : List ℕ) (k : ℕ) {r : Found} → r ≡ find (length t / 2) k → 2 * r .start + 2 * r .length ≤ length t
+pub digits-within : (t : List ℕ) (k : ℕ) {r : FramePart} → r ≡ find (length t / 2) k → 2 * r .start + 2 * r .length ≤ length t
 digits-within t k {r} e = let w : r .start + r .length ≤ length t / 2 = rw e (within (length t / 2) k) in omega arith
 
 pub digits-few : (t : List ℕ) (a b : ℕ) → length (take (a + b - a) (drop a t)) ≤ b
@@ -57,13 +56,13 @@ unfolding opening
 opening-sid = refl
 
 -- the line of a frame, by its kind
-module _ (t : List ℕ) (k : ℕ) {r : Found} (h : is-hex t ≡ true) (e : r ≡ find (length t / 2) k) where
+module _ (t : List ℕ) (k : ℕ) {r : FramePart} (h : is-hex t ≡ true) (e : r ≡ find (length t / 2) k) where
   abbrev digits : List ℕ
   digits = take (2 * r .start + 2 * r .length - 2 * r .start) (drop (2 * r .start) t)
 
   kind-is : r .kind ≡ find (length (payload t)) k .kind
   unfolding payload
-  kind-is = ap (λ (x : Found). x .kind) e ∙ ap (λ (n : ℕ). find n k .kind) (sym (length-bytes (length t / 2) t))
+  kind-is = ap (λ (x : FramePart). x .kind) e ∙ ap (λ (n : ℕ). find n k .kind) (sym (length-bytes (length t / 2) t))
 
   line-of : (kind : ℕ) → r .kind ≡ kind → opening kind ++ (digits ++ ascii "))\n") ≡ frame-line (payload t) k
   unfolding frame-line text form
@@ -138,7 +137,7 @@ line-tells t lent h = rw (eq-eqb _ _ h) (by (is 0 t) (is 1 t) (is 2 t) (is 3 t))
 
 -- ---- the tests of the code
 
-module _ (t : List ℕ) (number : ℕ) {r : Counted} (e : r ≡ frames (length t / 2)) where
+module _ (t : List ℕ) (number : ℕ) {r : FrameCount} (e : r ≡ frames (length t / 2)) where
   counted : r ≡ frames (length (payload t))
   unfolding payload
   counted = e ∙ ap frames (sym (length-bytes (length t / 2) t))

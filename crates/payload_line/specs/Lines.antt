@@ -1,8 +1,8 @@
 -- What is claimed of the lines that are printed: how Line, and so a decoder, reads them; proved in Read.antt.
 use mathlib.Core.Path.{_≡_}
 use mathlib.Core.List.{List, _++_}
-use Prim.Native.Nat.{ℕ, _<_}
-use lib.ListN.{length, getD, drop}
+use Prim.Native.Nat.{ℕ}
+use lib.ListN.{length, drop}
 use Rattle.line.specs.declared.Read.the-variants.{Refused, Frame}
 use Rattle.line.specs.Line as Line
 use Rattle.line.specs.Line.{line}

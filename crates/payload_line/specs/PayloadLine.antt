@@ -13,7 +13,7 @@ use Rattle.rtp.specs.Rtp.{frames, find, part}
 abbrev pub longest : ℕ
 longest = 131070
 
--- the bytes of the most that is printed for a line: 6,554 lines of a call
+-- room for what is printed for a line: 6,554 lines of at most 37 bytes
 abbrev pub room : ℕ
 room = 242498
 

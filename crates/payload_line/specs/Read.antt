@@ -1,11 +1,10 @@
 -- How Line reads what is printed: the claims of Lines.antt, proved. Assumes nothing.
-use mathlib.Core.Path.{_≡_, refl, sym, ap, _∙_}
-use mathlib.Core.Bool.{Bool, true, false, cond}
+use mathlib.Core.Path.{_≡_, refl}
 use mathlib.Core.List.{List, [], _∷_, _++_}
-use Prim.Native.Nat.{ℕ, zero, suc, _+_, _*_, _/_, _<_, _≤_}
+use Prim.Native.Nat.{ℕ, zero, suc, _+_, _/_, _<_}
 use native.Mathlib.Omega.{arith}
 use lib.ListN.{length, getD, take, drop}
-use lib.Seq.{getD-drop, getD-take, take-append-seam}
+use lib.Seq.{getD-drop}
 use borrow.Author.Tests.{eq-eqb}
 use Rattle.laws.specs.Bytes.{same}
 use Rattle.laws.specs.Digits.{value-lt}

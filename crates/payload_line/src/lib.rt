@@ -15,7 +15,7 @@ use print::FORM_ROOM;
 // The digits of the longest payload, 65,535 bytes.
 pub const LONGEST: usize = 131070;
 
-// The bytes of the most that is printed for a line.
+// Room for what is printed for a line: 6,554 lines of at most 37 bytes.
 pub const ROOM: usize = 242498;
 
 // 0, or the number of a line's refusal; and how many bytes were printed for it.

@@ -3,7 +3,6 @@
 ghost use Prim.Native.Nat.{_≤_, _<_};
 ghost use lib.ListN.{length};
 use libc::STDERR_FILENO;
-use libc::STDIN_FILENO;
 use options::Asked;
 use payload_line::LONGEST;
 use payload_line::ROOM;
@@ -168,24 +167,6 @@ fn convert(fd: i32, name: &[u8]) {
     }
 }
 
-// The text: the file of this name, or standard input, which may be a terminal.
-fn open(given: bool, name: &[u8]) -> i32 {
-    if given {
-        let fd = os::open_read(name);
-        if fd < 0 {
-            os::fail(name);
-        }
-        return fd;
-    }
-    if libc::isatty(STDIN_FILENO) == 1 {
-        files::say(
-            b"payloads",
-            b"reading payloads from the terminal; end them with Ctrl-D (payloads --help tells more)",
-        );
-    }
-    STDIN_FILENO
-}
-
 // Whether tables are asked for: this program has none.
 fn no_tables(a: Asked) -> bool {
     if (a.tables == 0) & (a.what != options::FILE) & (a.what != options::TWICE) {
@@ -207,14 +188,19 @@ fn main() {
         a,
         b"payloads",
         &usage,
-        b"Turns RTP payloads of G.729 into the call that decode takes: a payload a line, in hexadecimal digits 0-9 and a-f, becomes a line for each of its frames, ten bytes of voice each, then at most a SID of two. A line that is one of the four forms of a call is printed as it is.\n\n  payloads <monday.payloads >monday.call\n\n  PAYLOADS    a file or a named pipe; else they are read from standard input\n  --help      this text\n  --version   the version\n\nA refused line is told on standard error. In the call (refused (code C) (line L)) stands in its place, which decode refuses.\n",
+        b"Turns RTP payloads of G.729 into the call that decode takes: a payload a line, in hexadecimal digits 0-9 and a-f, becomes a line for each of its frames, ten bytes of voice each, then at most a SID of two. A line that is one of the four forms of a call is printed as it is.\n\n  payloads <monday.payloads >monday.call\n\n  PAYLOADS    a file or a named pipe; else they are read from standard input\n  --help      this text\n  --version   the version\n\nWhy a line is refused is said on standard error. In the call (refused (code C) (line L)) stands in its place, which decode refuses.\n",
     );
     if done {
         return;
     }
     let mut name = io::buffer();
     let n = files::argument(a.first, b"standard input", &mut name);
-    let fd = open(a.first != 0, &name[0..n]);
+    let fd = files::input(
+        a.first != 0,
+        &name[0..n],
+        b"payloads",
+        b"reading payloads from the terminal; end them with Ctrl-D (payloads --help tells more)",
+    );
     if 0 <= fd {
         convert(fd, &name[0..n]);
     }

@@ -6,24 +6,11 @@ mod show;
 use compare_step::COMPARE_LENGTH;
 use libc::STDIN_FILENO;
 use replay::part;
-
-// The letter of the next line; 0 at the end.
-fn letter() -> u8 {
-    let mut byte = [0u8; 1];
-    io::read_full(STDIN_FILENO, &mut byte);
-    byte[0]
-}
-
-// Reads the next bytes, as many as `text` has room for: a line without its letter; and fills `words` from them. False where the input ends before.
-fn read_words(text: &mut [u8], words: &mut [i16]) -> bool {
-    let n = io::read_full(STDIN_FILENO, text);
-    replay::hex::words(text, words);
-    n == text.len()
-}
+use replay::stream;
 
 fn table_line(t: &mut [i16; 1880]) -> bool {
     let mut text = [0u8; 7521];
-    read_words(&mut text, t)
+    stream::read_words(&mut text, t)
 }
 
 fn new_line(t: &[i16; 1880], m: &mut [i16; COMPARE_LENGTH]) -> bool {
@@ -48,7 +35,7 @@ fn frame(t: &[i16; 1880], m: &mut [i16; COMPARE_LENGTH], line: &[i16; 91], out: 
 fn frame_line(t: &[i16; 1880], m: &mut [i16; COMPARE_LENGTH], out: &mut [i16; 80]) -> bool {
     let mut text = [0u8; 365];
     let mut line = [0i16; 91];
-    if read_words(&mut text, &mut line) {
+    if stream::read_words(&mut text, &mut line) {
         frame(t, m, &line, out);
         return true;
     }
@@ -57,7 +44,7 @@ fn frame_line(t: &[i16; 1880], m: &mut [i16; COMPARE_LENGTH], out: &mut [i16; 80
 
 // The next line. False at the end.
 fn line(t: &mut [i16; 1880], m: &mut [i16; COMPARE_LENGTH], out: &mut [i16; 80]) -> bool {
-    match letter() {
+    match stream::letter() {
         b'T' => table_line(t),
         b'N' => new_line(t, m),
         b'F' => frame_line(t, m, out),

@@ -9,21 +9,8 @@ mod rows;
 
 use libc::STDIN_FILENO;
 use replay::part;
+use replay::stream;
 use replay::tally;
-
-// The letter of the next line; 0 at the end.
-fn letter() -> u8 {
-    let mut byte = [0u8; 1];
-    io::read_full(STDIN_FILENO, &mut byte);
-    byte[0]
-}
-
-// Reads the next bytes, as many as `text` has room for: a line without its letter; and fills `words` from them. False where the input ends before.
-fn read_words(text: &mut [u8], words: &mut [i16]) -> bool {
-    let n = io::read_full(STDIN_FILENO, text);
-    replay::hex::words(text, words);
-    n == text.len()
-}
 
 // A length, and no more than there is.
 pub(crate) fn length(n: usize, most: usize) -> usize
@@ -50,7 +37,7 @@ fn decode(t: &[i16], b: &mut [i16], f: &[i16], row: usize, tally: &mut [u32; 64]
 
 fn table_line(t: &mut [i16; 1880]) -> bool {
     let mut text = [0u8; 7521];
-    read_words(&mut text, t)
+    stream::read_words(&mut text, t)
 }
 
 // A call begins in the fresh state.
@@ -73,7 +60,7 @@ fn fresh_line(
 // A call begins in the state of the line.
 fn state_line(whole: &mut [i16; 234], resumed: &mut [i16; 234], tally: &mut [u32; 64]) -> bool {
     let mut text = [0u8; 937];
-    let more = read_words(&mut text, whole);
+    let more = stream::read_words(&mut text, whole);
     part::fill(whole, 0, resumed);
     tally::count(tally, rows::CALLS, false);
     more
@@ -87,7 +74,7 @@ fn frame_line(
 ) -> bool {
     let mut text = [0u8; 365];
     let mut f = [0i16; 91];
-    if read_words(&mut text, &mut f) {
+    if stream::read_words(&mut text, &mut f) {
         tally::count(tally, rows::FRAMES, false);
         decode(t, whole, &f, rows::WHOLE_SAMPLES, tally);
         decode(t, resumed, &f, rows::RESUMED_SAMPLES, tally);
@@ -100,7 +87,7 @@ fn frame_line(
 fn end_line(whole: &[i16; 234], resumed: &mut [i16; 234], tally: &mut [u32; 64]) -> bool {
     let mut text = [0u8; 937];
     let mut s = [0i16; 234];
-    if read_words(&mut text, &mut s) {
+    if stream::read_words(&mut text, &mut s) {
         tally::words(tally, rows::WHOLE_STATES, &s, 0, whole);
         tally::words(tally, rows::RESUMED_STATES, &s, 0, resumed);
         part::fill(&s, 0, resumed);
@@ -112,7 +99,7 @@ fn end_line(whole: &[i16; 234], resumed: &mut [i16; 234], tally: &mut [u32; 64])
 fn refusal_line(tally: &mut [u32; 64]) -> bool {
     let mut text = [0u8; 57];
     let mut words = [0i16; 14];
-    if read_words(&mut text, &mut words) {
+    if stream::read_words(&mut text, &mut words) {
         refusals::line(&words, tally);
         return true;
     }
@@ -126,7 +113,7 @@ fn line(
     resumed: &mut [i16; 234],
     tally: &mut [u32; 64],
 ) -> bool {
-    match letter() {
+    match stream::letter() {
         b'T' => table_line(t),
         b'N' => fresh_line(t, whole, resumed, tally),
         b'S' => state_line(whole, resumed, tally),

@@ -7,6 +7,7 @@ mod values;
 use libc::STDIN_FILENO;
 use libc::STDOUT_FILENO;
 use replay::part;
+use replay::stream;
 use values::LENGTH;
 
 // The places of the counts: pairs, frames that both decoders of the pair got, and frames that each of them concealed.
@@ -17,20 +18,6 @@ const FRAMES: usize = 1;
 const CONCEALED_A: usize = 2;
 
 const CONCEALED_B: usize = 3;
-
-// The letter of the next line; 0 at the end.
-fn letter() -> u8 {
-    let mut byte = [0u8; 1];
-    io::read_full(STDIN_FILENO, &mut byte);
-    byte[0]
-}
-
-// Reads the next bytes, as many as `text` has room for: a line without its letter; and fills `words` from them. False where the input ends before.
-fn read_words(text: &mut [u8], words: &mut [i16]) -> bool {
-    let n = io::read_full(STDIN_FILENO, text);
-    replay::hex::words(text, words);
-    n == text.len()
-}
 
 // Prints a refusal, and answers its number.
 fn refused(code: u32) -> u32 {
@@ -95,7 +82,7 @@ fn past(t: &[i16; 1880], b: &mut [i16; 234], line: &[i16; 12], count: u32) -> u3
 fn line_a(t: &[i16; 1880], a: &mut [i16; 234], counts: &mut [u32; 4]) -> bool {
     let mut text = [0u8; 49];
     let mut line = [0i16; 12];
-    if read_words(&mut text, &mut line) {
+    if stream::read_words(&mut text, &mut line) {
         counts[CONCEALED_A] = past(t, a, &line, counts[CONCEALED_A]);
         return true;
     }
@@ -105,7 +92,7 @@ fn line_a(t: &[i16; 1880], a: &mut [i16; 234], counts: &mut [u32; 4]) -> bool {
 fn line_b(t: &[i16; 1880], b: &mut [i16; 234], counts: &mut [u32; 4]) -> bool {
     let mut text = [0u8; 49];
     let mut line = [0i16; 12];
-    if read_words(&mut text, &mut line) {
+    if stream::read_words(&mut text, &mut line) {
         counts[CONCEALED_B] = past(t, b, &line, counts[CONCEALED_B]);
         return true;
     }
@@ -116,7 +103,7 @@ fn line_b(t: &[i16; 1880], b: &mut [i16; 234], counts: &mut [u32; 4]) -> bool {
 
 fn table_line(t: &mut [i16; 1880]) -> bool {
     let mut text = [0u8; 7521];
-    read_words(&mut text, t)
+    stream::read_words(&mut text, t)
 }
 
 fn pair_line(
@@ -201,7 +188,7 @@ fn common_line(
 ) -> bool {
     let mut text = [0u8; 45];
     let mut line = [0i16; 11];
-    if read_words(&mut text, &mut line) {
+    if stream::read_words(&mut text, &mut line) {
         common(t, a, b, &line, counts);
         return true;
     }
@@ -215,7 +202,7 @@ fn line(
     b: &mut [i16; 234],
     counts: &mut [u32; 4],
 ) -> bool {
-    match letter() {
+    match stream::letter() {
         b'T' => table_line(t),
         b'P' => pair_line(t, a, b, counts),
         b'A' => line_a(t, a, counts),

@@ -6,8 +6,8 @@ ghost use Prim.Native.Nat.{_≤_};
 
 mod rows;
 
-use libc::STDIN_FILENO;
 use replay::part;
+use replay::stream;
 use replay::tally;
 
 // Indexes that no payload has. Ten times the index leaves 64 bits from the fourth on, and is the place of a frame again in the fifth and the sixth.
@@ -31,7 +31,7 @@ fn number(sum: u32, n: u64) -> u32 {
 }
 
 // That of a frame: kind, place and length, and its bytes.
-fn record(sum: u32, found: rtp::Found, bytes: &[u8]) -> u32 {
+fn record(sum: u32, found: rtp::FramePart, bytes: &[u8]) -> u32 {
     let kind = number(sum, found.kind as u64);
     let start = number(kind, found.start as u64);
     crc32::more(number(start, found.length as u64), bytes)
@@ -128,24 +128,10 @@ fn replay(line: &[i16], payload: &[u8], tally: &mut [u32; 64]) {
     high(line, payload, tally);
 }
 
-// The letter of the next line; 0 at the end.
-fn letter() -> u8 {
-    let mut byte = [0u8; 1];
-    io::read_full(STDIN_FILENO, &mut byte);
-    byte[0]
-}
-
-// Reads the next bytes, as many as `text` has room for: a line without its letter; and fills `words` from them. False where the input ends before.
-fn read_words(text: &mut [u8], words: &mut [i16]) -> bool {
-    let n = io::read_full(STDIN_FILENO, text);
-    replay::hex::words(text, words);
-    n == text.len()
-}
-
 fn bytes_line(bytes: &mut [u8; 4096]) -> bool {
     let mut text = [0u8; 8193];
     let mut held = [0i16; 2048];
-    let whole = read_words(&mut text, &mut held);
+    let whole = stream::read_words(&mut text, &mut held);
     words::to_bytes(&held, bytes);
     whole
 }
@@ -153,7 +139,7 @@ fn bytes_line(bytes: &mut [u8; 4096]) -> bool {
 fn payload_line(bytes: &[u8], tally: &mut [u32; 64]) -> bool {
     let mut text = [0u8; 45];
     let mut line = [0i16; 11];
-    if read_words(&mut text, &mut line) {
+    if stream::read_words(&mut text, &mut line) {
         let from = words::lesser(part::number(&line, 0) as usize, bytes.len());
         let to = from + words::lesser(part::number(&line, 1) as usize, bytes.len() - from);
         replay(&line, &bytes[from..to], tally);
@@ -164,7 +150,7 @@ fn payload_line(bytes: &[u8], tally: &mut [u32; 64]) -> bool {
 
 // The next line. False at the end.
 fn line(bytes: &mut [u8; 4096], tally: &mut [u32; 64]) -> bool {
-    match letter() {
+    match stream::letter() {
         b'B' => bytes_line(bytes),
         b'P' => payload_line(bytes, tally),
         _ => false,

@@ -1,5 +1,5 @@
 // The rows of the tally: what each counts, and how they are printed.
-use libc::STDOUT_FILENO;
+use replay::stream;
 use replay::tally;
 
 pub const PAYLOADS: usize = 0;
@@ -21,27 +21,13 @@ pub const REFUSAL: usize = 6;
 
 pub const BESIDE: usize = 7;
 
-// Prints a number behind its name.
-fn print(name: &[u8], n: u32) {
-    io::write_all(STDOUT_FILENO, name);
-    io::print_decimal(STDOUT_FILENO, n as u64);
-}
-
-// Prints a row behind its name.
-fn print_row(name: &[u8], tally: &[u32; 64], row: usize) {
-    print(name, tally::compared(tally, row));
-    print(b" differ ", tally::differ(tally, row));
-    io::write_all(STDOUT_FILENO, b"\n");
-}
-
 pub(crate) fn print_all(tally: &[u32; 64]) {
-    print(b"payloads ", tally::compared(tally, PAYLOADS));
-    io::write_all(STDOUT_FILENO, b"\n");
-    print_row(b"rtp::frames, code compared ", tally, CODE);
-    print_row(b"rtp::frames, number compared ", tally, NUMBER);
-    print_row(b"rtp::find, code compared ", tally, FRAME_CODE);
-    print_row(b"rtp::find, last frame compared ", tally, LAST);
-    print_row(b"rtp::find and rtp::part, all frames compared ", tally, ALL);
-    print_row(b"index too high, code compared ", tally, REFUSAL);
-    print_row(b"index too high, frame and part compared ", tally, BESIDE);
+    stream::print_one(b"payloads ", tally::compared(tally, PAYLOADS));
+    stream::print_row(b"rtp::frames, code", tally, CODE);
+    stream::print_row(b"rtp::frames, number", tally, NUMBER);
+    stream::print_row(b"rtp::find, code", tally, FRAME_CODE);
+    stream::print_row(b"rtp::find, last frame", tally, LAST);
+    stream::print_row(b"rtp::find and rtp::part, all frames", tally, ALL);
+    stream::print_row(b"index too high, code", tally, REFUSAL);
+    stream::print_row(b"index too high, frame and part", tally, BESIDE);
 }

@@ -11,24 +11,10 @@ mod signal;
 mod spectrum;
 
 use bitstream::SpeechParams;
-use libc::STDIN_FILENO;
 use plc::Decision;
 use replay::part;
+use replay::stream;
 use replay::tally;
-
-// The letter of the next line; 0 at the end.
-fn letter() -> u8 {
-    let mut byte = [0u8; 1];
-    io::read_full(STDIN_FILENO, &mut byte);
-    byte[0]
-}
-
-// Reads the next bytes, as many as `text` has room for: a line without its letter; and fills `words` from them. False where the input ends before.
-fn read_words(text: &mut [u8], words: &mut [i16]) -> bool {
-    let n = io::read_full(STDIN_FILENO, text);
-    replay::hex::words(text, words);
-    n == text.len()
-}
 
 fn voice(p: SpeechParams, t: &[i16], s: &[i16], f: &[i16], tally: &mut [u32; 64]) {
     spectrum::voice(p, t, s, f, tally);
@@ -84,18 +70,18 @@ fn frame(t: &[i16], s: &[i16], f: &[i16], tally: &mut [u32; 64]) {
 fn table_line(t: &mut [i16; 1880], tally: &mut [u32; 64]) -> bool {
     let mut text = [0u8; 7521];
     tally::count(tally, rows::CASES, false);
-    read_words(&mut text, t)
+    stream::read_words(&mut text, t)
 }
 
 fn state_line(s: &mut [i16; 234]) -> bool {
     let mut text = [0u8; 937];
-    read_words(&mut text, s)
+    stream::read_words(&mut text, s)
 }
 
 fn frame_line(t: &[i16; 1880], s: &mut [i16; 234], tally: &mut [u32; 64]) -> bool {
     let mut text = [0u8; 2957];
     let mut f = [0i16; 739];
-    if read_words(&mut text, &mut f) {
+    if stream::read_words(&mut text, &mut f) {
         frame(t, s, &f, tally);
         part::fill(&f, 505, s);
         return true;
@@ -105,7 +91,7 @@ fn frame_line(t: &[i16; 1880], s: &mut [i16; 234], tally: &mut [u32; 64]) -> boo
 
 // The next line. False at the end.
 fn line(t: &mut [i16; 1880], s: &mut [i16; 234], tally: &mut [u32; 64]) -> bool {
-    let kind = letter();
+    let kind = stream::letter();
     if kind == b'T' {
         return table_line(t, tally);
     }

@@ -1,5 +1,5 @@
 // The rows of the tally: what each counts, and how they are printed.
-use libc::STDOUT_FILENO;
+use replay::stream;
 use replay::tally;
 
 pub const CASES: usize = 0;
@@ -48,55 +48,35 @@ pub const RECONSTRUCT: usize = 21;
 
 pub const CARRIED: usize = 22;
 
-// Prints a line of two counts, each behind its name.
-fn print_two(first: &[u8], m: u32, second: &[u8], n: u32) {
-    io::write_all(STDOUT_FILENO, first);
-    io::print_decimal(STDOUT_FILENO, m as u64);
-    io::write_all(STDOUT_FILENO, second);
-    io::print_decimal(STDOUT_FILENO, n as u64);
-    io::write_all(STDOUT_FILENO, b"\n");
-}
-
-// Prints a row behind its name.
-fn print_row(name: &[u8], tally: &[u32; 64], row: usize) {
-    io::write_all(STDOUT_FILENO, name);
-    print_two(
-        b" compared ",
-        tally::compared(tally, row),
-        b" differ ",
-        tally::differ(tally, row),
-    );
-}
-
 fn print_parameters(tally: &[u32; 64]) {
-    print_row(b"bitstream::unpack", tally, UNPACK);
-    print_row(b"pitch::parity_ok", tally, PARITY);
-    print_row(b"pitch::PitchState", tally, DELAY);
-    print_row(b"lsp::new_row", tally, NEW_ROW);
-    print_row(b"lsp::erased_row", tally, ERASED_ROW);
-    print_row(b"lsp::decode_lsf", tally, DECODE_LSF);
-    print_row(b"lsp::remember_output", tally, REMEMBER);
-    print_row(b"lsp::lsf_to_lsp", tally, LSP);
-    print_row(b"lsp::interpolate", tally, INTERPOLATE);
-    print_row(b"lpc::lsp_to_lp", tally, LP);
+    stream::print_row(b"bitstream::unpack", tally, UNPACK);
+    stream::print_row(b"pitch::parity_ok", tally, PARITY);
+    stream::print_row(b"pitch::PitchState", tally, DELAY);
+    stream::print_row(b"lsp::new_row", tally, NEW_ROW);
+    stream::print_row(b"lsp::erased_row", tally, ERASED_ROW);
+    stream::print_row(b"lsp::decode_lsf", tally, DECODE_LSF);
+    stream::print_row(b"lsp::remember_output", tally, REMEMBER);
+    stream::print_row(b"lsp::lsf_to_lsp", tally, LSP);
+    stream::print_row(b"lsp::interpolate", tally, INTERPOLATE);
+    stream::print_row(b"lpc::lsp_to_lp", tally, LP);
 }
 
 fn print_code_and_signal(tally: &[u32; 64]) {
-    print_row(b"fixed::random_index", tally, RANDOM);
-    print_row(b"fixed::codevector", tally, CODEVECTOR);
-    print_row(b"fixed::sharpen", tally, SHARPEN);
-    print_row(b"gain::decode", tally, DECODE_GAIN);
-    print_row(b"gain::conceal", tally, CONCEAL_GAIN);
-    print_row(b"gain::sharpening", tally, SHARPENING);
-    print_row(b"adaptive::adaptive_vector", tally, VECTOR);
-    print_row(b"synth::excitation", tally, EXCITATION);
-    print_row(b"synth::synthesize", tally, SYNTHESIZE);
-    print_row(b"synth::reconstruct", tally, RECONSTRUCT);
-    print_row(b"carried", tally, CARRIED);
+    stream::print_row(b"fixed::random_index", tally, RANDOM);
+    stream::print_row(b"fixed::codevector", tally, CODEVECTOR);
+    stream::print_row(b"fixed::sharpen", tally, SHARPEN);
+    stream::print_row(b"gain::decode", tally, DECODE_GAIN);
+    stream::print_row(b"gain::conceal", tally, CONCEAL_GAIN);
+    stream::print_row(b"gain::sharpening", tally, SHARPENING);
+    stream::print_row(b"adaptive::adaptive_vector", tally, VECTOR);
+    stream::print_row(b"synth::excitation", tally, EXCITATION);
+    stream::print_row(b"synth::synthesize", tally, SYNTHESIZE);
+    stream::print_row(b"synth::reconstruct", tally, RECONSTRUCT);
+    stream::print_row(b"carried", tally, CARRIED);
 }
 
 pub(crate) fn print(tally: &[u32; 64]) {
-    print_two(
+    stream::print_two(
         b"cases ",
         tally::compared(tally, CASES),
         b" frames ",

@@ -6,11 +6,11 @@ use Prim.Native.Nat.{ℕ, _+_, _-_, _*_, _/_, _%_, _≤_, _<_}
 use native.Mathlib.Omega.{arith}
 use lib.Dec.{eqb, ltb}
 use lib.ListN.{length, take, drop}
-use borrow.Author.Tests.{eqb-true, eqb-false, ltb-true, ltb-false, eq-eqb, ne-eqb, lt-ltb, le-ltb}
+use borrow.Author.Tests.{eqb-true, ltb-true, ltb-false, eq-eqb, ne-eqb, lt-ltb, le-ltb}
 use Rattle.kind.specs.Kind.{payload-length}
 use Rattle.rtp.specs.Rtp.{whole, count, kind, refusal, frames, find, part, place, answer, frame}
-use Rattle.rtp.specs.declared.Counted.{Counted}
-use Rattle.rtp.specs.declared.Found.{Found}
+use Rattle.rtp.specs.declared.FrameCount.{FrameCount}
+use Rattle.rtp.specs.declared.FramePart.{FramePart}
 
 -- ---- whole payloads
 
@@ -103,18 +103,18 @@ sid-length n k h = by (cases n k)
 
 -- ---- by what `find` answers
 
-pub ends : (n k : ℕ) {r : Found} → r ≡ find n k → r .start + r .length ≤ n
+pub ends : (n k : ℕ) {r : FramePart} → r ≡ find n k → r .start + r .length ≤ n
 ends n k e = rw e (within n k)
 
-pub part-of : (l : List ℕ) (k : ℕ) {r : Found} → r ≡ find (length l) k → take (r .start + r .length - r .start) (drop (r .start) l) ≡ part l k
+pub part-of : (l : List ℕ) (k : ℕ) {r : FramePart} → r ≡ find (length l) k → take (r .start + r .length - r .start) (drop (r .start) l) ≡ part l k
 unfolding part
 part-of l k {r} e = let m : r .start + r .length - r .start ≡ r .length = omega arith in rw (m, e)
 
-pub place-of : (p : ℕ × ℕ) (n k : ℕ) {r : Found} → r ≡ find n k → _≡_ {A = ℕ × ℕ} (p .0, r .start + p .1) (place p n k)
+pub place-of : (p : ℕ × ℕ) (n k : ℕ) {r : FramePart} → r ≡ find n k → _≡_ {A = ℕ × ℕ} (p .0, r .start + p .1) (place p n k)
 unfolding place
 place-of p n k e = rw e
 
-pub frame-of : (p : ℕ × ℕ) (l : List ℕ) (k : ℕ) {r : Found} {b : List ℕ} {q : ℕ × ℕ} → r ≡ find (length l) k → b ≡ part l k → q ≡ place p (length l) k
+pub frame-of : (p : ℕ × ℕ) (l : List ℕ) (k : ℕ) {r : FramePart} {b : List ℕ} {q : ℕ × ℕ} → r ≡ find (length l) k → b ≡ part l k → q ≡ place p (length l) k
     → answer (r .code) (r .kind) b q ≡ frame p l k
 unfolding frame
 frame-of p l k e f g = rw (e, f, g)
@@ -133,7 +133,7 @@ pub frames-most : (n : ℕ) → frames n .frames ≤ n / 10 + 1
 unfolding frames
 frames-most n = by (whole n)
   where
-    by : (b : Bool) → cond {A = Counted} b (record { code = 0; frames = count n }) (record { code = 12; frames = 0 }) .frames ≤ n / 10 + 1
+    by : (b : Bool) → cond {A = FrameCount} b (record { code = 0; frames = count n }) (record { code = 12; frames = 0 }) .frames ≤ n / 10 + 1
     by true = count-most n
     by false = omega arith
 
@@ -142,18 +142,18 @@ unfolding frames whole
 frames-refused n h g = rw (ne-eqb _ _ h, ne-eqb _ _ g)
 
 -- by what `frames_of` answers
-module _ (n k : ℕ) {r : Counted} (e : r ≡ frames n) where
+module _ (n k : ℕ) {r : FrameCount} (e : r ≡ frames n) where
   code-is : r .code ≡ cond {A = ℕ} (whole n) 0 12
   unfolding frames
-  code-is = ap (λ (x : Counted). x .code) e ∙ pick (whole n)
+  code-is = ap (λ (x : FrameCount). x .code) e ∙ pick (whole n)
     where
-      pick : (b : Bool) → cond {A = Counted} b (record { code = 0; frames = count n }) (record { code = 12; frames = 0 }) .code ≡ cond {A = ℕ} b 0 12
+      pick : (b : Bool) → cond {A = FrameCount} b (record { code = 0; frames = count n }) (record { code = 12; frames = 0 }) .code ≡ cond {A = ℕ} b 0 12
       pick true = refl
       pick false = refl
 
   frames-are : whole n ≡ true → r .frames ≡ count n
   unfolding frames
-  frames-are h = ap (λ (x : Counted). x .frames) e ∙ rw h
+  frames-are h = ap (λ (x : FrameCount). x .frames) e ∙ rw h
 
   pub find-refused : (r .code ≡ 0 → ⊥) → record { code = r .code; kind = 0; start = 0; length = 0 } ≡ find n k
   unfolding find refusal

@@ -1,14 +1,14 @@
 -- A payload and its parts: the claims of Payload.antt, proved. Assumes nothing.
 use mathlib.Core.Path.{_≡_, refl, sym, ap, _∙_}
-use mathlib.Core.Bool.{Bool, true, false, cond}
+use mathlib.Core.Bool.{Bool, true, false}
 use mathlib.Core.List.{List, [], _∷_, _++_}
-use Prim.Native.Nat.{ℕ, zero, suc, _+_, _*_, _/_, _%_, _≤_, _<_}
+use Prim.Native.Nat.{ℕ, zero, suc, _+_, _*_, _≤_, _<_}
 use native.Mathlib.Omega.{arith}
 use lib.ListN.{length, take, drop, length-take, length-drop}
 use lib.Seq.{take-all}
 use Rattle.kind.specs.Kind.{payload-length}
 use Rattle.rtp.specs.Rtp.{whole, count, frames, find, part}
-use Rattle.rtp.specs.Laws.{Rest, rest, count-none, count-two, Case, cases, within}
+use Rattle.rtp.specs.Laws.{Rest, rest, count-none, count-two, Case, cases, within, frames-none, frames-two, frames-refused}
 use Rattle.rtp.specs.Payload.{joined, Payload}
 
 -- ---- the count
@@ -164,6 +164,9 @@ empty-proof = refl
 pub payload : Payload
 payload =
     record {
+      voice-alone = λ n h. sym (frames-none n h);
+      voice-and-sid = λ n h. sym (frames-two n h);
+      no-other = λ n h g. sym (frames-refused n h g);
       empty = empty-proof;
       parts-joined = parts-joined-proof;
       found = found-proof;

@@ -1,7 +1,7 @@
 -- What change request 1 claims of the frames of a payload, on the definitions of the calls; proved in Parts.antt.
 use mathlib.Core.Path.{_≡_}
 use mathlib.Core.List.{List, [], _++_}
-use Prim.Native.Nat.{ℕ, zero, suc, _+_, _≤_, _<_}
+use Prim.Native.Nat.{ℕ, zero, suc, _+_, _/_, _%_, _≤_, _<_}
 use lib.ListN.{length}
 use Rattle.kind.specs.Kind.{payload-length}
 use Rattle.rtp.specs.Rtp.{frames, find, part}
@@ -12,6 +12,10 @@ joined l zero = []
 joined l (suc m) = joined l m ++ part l m
 
 pub record Payload : Type 0 where
+  -- which lengths are taken: voice frames of ten bytes each, or these and two bytes more
+  pub voice-alone : (n : ℕ) → n % 10 ≡ 0 → frames n ≡ record { code = 0; frames = n / 10 }
+  pub voice-and-sid : (n : ℕ) → n % 10 ≡ 2 → frames n ≡ record { code = 0; frames = n / 10 + 1 }
+  pub no-other : (n : ℕ) → (n % 10 ≡ 0 → ⊥) → (n % 10 ≡ 2 → ⊥) → frames n ≡ record { code = 12; frames = 0 }
   -- an empty payload has 0 frames
   pub empty : frames 0 ≡ record { code = 0; frames = 0 }
   -- joined in index order, the parts are the payload

@@ -6,12 +6,12 @@ use Prim.Native.Nat.{ℕ, _+_, _*_, _/_, _%_}
 use lib.Dec.{eqb, ltb}
 use lib.ListN.{length, take, drop}
 use Rattle.kind.specs.Kind.{payload-length}
-use Rattle.rtp.specs.declared.Counted.{Counted}
-use Rattle.rtp.specs.declared.Found.{Found}
+use Rattle.rtp.specs.declared.FrameCount.{FrameCount}
+use Rattle.rtp.specs.declared.FramePart.{FramePart}
 
 -- ---- a payload of n bytes
 
--- nothing, or the two bytes of a SID, behind the voice frames
+-- a length that is taken: nothing, or the two bytes of a SID, is left behind the voice frames
 unfoldable pub whole : ℕ → Bool
 whole n = eqb (n % 10) 0 || eqb (n % 10) 2
 
@@ -25,16 +25,16 @@ kind n k = cond (ltb k (n / 10)) 0 1
 
 -- ---- the calls
 
--- 12: the payload isn't whole. 13: it has no frame k
+-- 12: the length isn't taken. 13: there is no frame k
 unfoldable pub refusal : ℕ → ℕ → ℕ
 refusal n k = cond (whole n) (cond (ltb k (count n)) 0 13) 12
 
 -- the number of frames; 0 beside a refusal
-unfoldable pub frames : ℕ → Counted
+unfoldable pub frames : ℕ → FrameCount
 frames n = cond (whole n) (record { code = 0; frames = count n }) (record { code = 12; frames = 0 })
 
 -- frame k: its kind, and the part of the payload that it occupies; an empty part beside a refusal
-unfoldable pub find : ℕ → ℕ → Found
+unfoldable pub find : ℕ → ℕ → FramePart
 find n k =
     cond (eqb (refusal n k) 0)
     (record { code = 0; kind = kind n k; start = 10 * k; length = payload-length (kind n k) })
@@ -48,7 +48,7 @@ part l k = take (find (length l) k .length) (drop (find (length l) k .start) l)
 unfoldable pub place : ℕ × ℕ → ℕ → ℕ → ℕ × ℕ
 place p n k = (p .0, find n k .start + p .1)
 
--- a frame: the number of the call, its kind, the bytes of its part, and where they lie
+-- a frame: 0 or the number of the refusal, its kind, the bytes of its part, and where they lie
 pub data Answer : Type 0 where
   answer : ℕ → ℕ → List ℕ → ℕ × ℕ → Answer
 

@@ -1,20 +1,21 @@
 // RTP payloads of G.729 (RFC 3551, section 4.5.6; `split_rtp` of bitstream.rs): voice frames of ten bytes each, then at most one SID frame of two. A frame is handed out as
-// the part of the caller's payload that it occupies; nothing is copied. 12: the length leaves a remainder other than 0 or 2 by ten. 13: there is no frame of that index.
+// the part of the caller's payload that it occupies; nothing is copied. 12: the length leaves a remainder other than 0 or 2 by ten. 13: the index isn't below the number of frames.
+// The operations are `frames` and `frame`; crates above call `find` and `part`, since a struct that holds a reference asks a proof by hand of its caller.
 ghost use mathlib.Core.Path.{_≡_};
 ghost use lib.ListN.{length};
 ghost use denote.Ref.{ptr};
 ghost use Rattle.rtp.specs.Rtp.{frames, find, part, place, Answer, frame};
 
-// The number of a call, and the frames of a payload; none beside a refusal.
+// 0 or the number of the refusal, and how many frames a payload has; 0 beside a refusal.
 #[repr(C)]
-pub struct Counted {
+pub struct FrameCount {
     pub code: u32,
     pub frames: usize,
 }
 
-// The number of a call, the kind of a frame, 0 voice or 1 SID, and the part of the payload that it occupies; kind 0 and an empty part beside a refusal.
+// 0 or the number of the refusal; the kind of a frame, 0 voice or 1 SID, and the part of the payload that it occupies. All are 0 beside a refusal: the part is empty.
 #[repr(C)]
-pub struct Found {
+pub struct FramePart {
     pub code: u32,
     pub kind: u32,
     pub start: usize,
@@ -22,40 +23,40 @@ pub struct Found {
 }
 
 // The same with the part itself.
-pub struct Framed<'a> {
+pub struct PayloadFrame<'a> {
     pub code: u32,
     pub kind: u32,
     pub bytes: &'a [u8],
 }
 
-// The number of frames of a payload of so many bytes: 12.
-pub fn frames_of(n: usize) -> Counted
+// The number of frames of a payload of n bytes. Refusal 12.
+pub fn frames_of(n: usize) -> FrameCount
     ensures { λ r. ⌜ r ≡ frames n ⌝ }
 {
     let rest = n % 10;
     if rest == 0 {
-        return Counted {
+        return FrameCount {
             code: 0,
             frames: n / 10,
         };
     }
     if rest == 2 {
-        return Counted {
+        return FrameCount {
             code: 0,
             frames: n / 10 + 1,
         };
     }
-    Counted {
+    FrameCount {
         code: 12,
         frames: 0,
     }
 }
 
 // No frame.
-fn refused(code: u32) -> Found
+fn refused(code: u32) -> FramePart
     ensures { λ r. ⌜ r ≡ record { code = code; kind = 0; start = 0; length = 0 } ⌝ }
 {
-    Found {
+    FramePart {
         code,
         kind: 0,
         start: 0,
@@ -63,8 +64,8 @@ fn refused(code: u32) -> Found
     }
 }
 
-// Frame `index` of a payload of so many bytes: 12, 13. Its place is computed behind both tests, so no index overflows.
-pub fn find_of(n: usize, index: usize) -> Found
+// Frame `index` of a payload of n bytes. Refusals 12, 13. Its place is computed behind both tests, so no index overflows.
+pub fn find_of(n: usize, index: usize) -> FramePart
     ensures { λ r. ⌜ r ≡ find n index ⌝ }
 {
     let counted = frames_of(n);
@@ -76,14 +77,14 @@ pub fn find_of(n: usize, index: usize) -> Found
     }
     let start = 10 * index;
     if index < n / 10 {
-        return Found {
+        return FramePart {
             code: 0,
             kind: 0,
             start,
             length: 10,
         };
     }
-    Found {
+    FramePart {
         code: 0,
         kind: 1,
         start,
@@ -91,15 +92,15 @@ pub fn find_of(n: usize, index: usize) -> Found
     }
 }
 
-// The number of frames of a payload: 12.
-pub fn frames(payload: &[u8]) -> Counted
+// The number of frames of a payload. Refusal 12.
+pub fn frames(payload: &[u8]) -> FrameCount
     ensures { λ r. ⌜ r ≡ frames (length (now (payload .entry))) ⌝ }
 {
     frames_of(payload.len())
 }
 
-// Where frame `index` of a payload lies, and its kind: 12, 13.
-pub fn find(payload: &[u8], index: usize) -> Found
+// The kind of frame `index` of a payload, and where it lies. Refusals 12, 13.
+pub fn find(payload: &[u8], index: usize) -> FramePart
     ensures { λ r. ⌜ r ≡ find (length (now (payload .entry))) index ⌝ }
 {
     find_of(payload.len(), index)
@@ -115,13 +116,13 @@ pub fn part(payload: &[u8], index: usize) -> &[u8]
     &payload[start..end]
 }
 
-// Frame `index` of a payload, with its part: 12, 13.
-pub fn frame<'a>(payload: &'a [u8], index: usize) -> Framed<'a>
+// Frame `index` of a payload: its kind, and the part that it occupies. Refusals 12, 13.
+pub fn frame<'a>(payload: &'a [u8], index: usize) -> PayloadFrame<'a>
     ensures { λ r. ⌜ Answer.answer (r .code) (r .kind) (now (r .bytes)) (ptr (r .bytes)) ≡ frame (ptr (payload .entry)) (now (payload .entry)) index ⌝ }
 {
     let found = find(payload, index);
     let bytes = part(payload, index);
-    Framed {
+    PayloadFrame {
         code: found.code,
         kind: found.kind,
         bytes,

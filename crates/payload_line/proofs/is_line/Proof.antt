@@ -1,5 +1,5 @@
 -- `payload_line::is_line` meets its contract: Line takes the text, or refuses it.
-use mathlib.Core.Path.{refl, sym, ap, _∙_}
+use mathlib.Core.Path.{refl, ap, _∙_}
 use borrow.Author.Needs.{needs}
 use Rattle.payload_line.specs.Laws.{is-frame, line-tells}
 use Rattle.payload_line.proofs.is_line.Statement.{statement}

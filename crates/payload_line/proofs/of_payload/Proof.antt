@@ -2,7 +2,7 @@
 use mathlib.Core.Path.{ap, _∙_}
 use native.Mathlib.Omega.{arith}
 use borrow.Author.Needs.{needs}
-use Rattle.rtp.specs.declared.Counted.{Counted}
+use Rattle.rtp.specs.declared.FrameCount.{FrameCount}
 use Rattle.payload_line.specs.PayloadLine.{Printed, given}
 use Rattle.payload_line.specs.Laws.{done, payload-refused, payload-taken, count-fits}
 use Rattle.payload_line.proofs.of_payload.Statement.{statement}
@@ -19,7 +19,7 @@ put-frames-requires c κs =
     let f = c .before .before .before in
     let b = f .before .before .before in
     let e = f .frames-of .ensures in
-    (b .pre .0, (ap (λ (x : Counted). x .frames) e, omega (arith, count-fits (b .args .text .now) (b .args .number) e (b .pre .1 .0), b .pre .1 .1)))
+    (b .pre .0, (ap (λ (x : FrameCount). x .frames) e, omega (arith, count-fits (b .args .text .now) (b .args .number) e (b .pre .1 .0), b .pre .1 .1)))
 
 returns-2 : tie.Need-returns-2
 returns-2 c =
