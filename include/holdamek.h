@@ -10,10 +10,10 @@
  * of stack are enough (5.3 KB were measured for holdamek_frame).
  *
  * A length counts elements, not bytes. A wrong length is refused before the memory is touched; so NULL with length 0 is refused where
- * another length is due, and is right for the payload of HOLDAMEK_NO_TRANSMISSION and HOLDAMEK_ERASED. The bytes of an RTP payload are never read: it may be NULL
- * with any length.
+ * another length is due, and is right for the payload of HOLDAMEK_NO_TRANSMISSION and HOLDAMEK_ERASED. The bytes of an RTP payload are
+ * never read; NULL is right for an empty one.
  *
- * What no function can notice, and the caller sees to: any other pointer with a right length isn't NULL and points to that much memory of its type;
+ * What no function can notice, and the caller sees to: a pointer with a right length that isn't 0 isn't NULL and points to that much memory of its type;
  * `kind`, `frames`, `lost`, `length`, `agreement`, `what`, `number` and `rest` are never NULL; and what is lent for writing overlaps nothing else that is lent in the
  * same call. */
 #ifndef HOLDAMEK_H

@@ -72,6 +72,7 @@ pub fn payload_frame(payload: &[u8], index: usize) -> Result<PayloadFrame<'_>, R
         0 => bytes.try_into().map(PayloadFrame::Voice),
         _ => bytes.try_into().map(PayloadFrame::Sid),
     };
+    // A part has the length of its kind, which is proved (crates/rtp, part-length): no such refusal is given.
     frame.map_err(|_| Refusal::PayloadLength)
 }
 
