@@ -81,4 +81,20 @@ static int print_samples(const int16_t samples[HOLDAMEK_FRAME_SAMPLES])
     return fwrite(form, 1, sizeof form, stdout) == sizeof form;
 }
 
+/* Prints the line of a frame and its samples. */
+static inline int print_frame(const uint8_t *line, size_t length, const int16_t samples[HOLDAMEK_FRAME_SAMPLES])
+{
+    return fwrite(line, 1, length, stdout) == length && putchar('\n') != EOF && print_samples(samples);
+}
+
+/* Runs a program whose one argument is the table file. */
+static inline int on_argument(int argc, char **argv, int (*run)(const int16_t *tables, int16_t *state))
+{
+    if (argc != 2) {
+        fprintf(stderr, "usage: %s TABLES\n", argv[0]);
+        return 2;
+    }
+    return on_tables(argv[1], run);
+}
+
 #endif

@@ -77,7 +77,7 @@ static int run(const int16_t *tables, int16_t *state)
                                   HOLDAMEK_FRAME_SAMPLES);
         if (code != HOLDAMEK_OK)
             return refused(code, n + 1);
-        if (fwrite(line, 1, length, stdout) != length || putchar('\n') == EOF || !print_samples(samples))
+        if (!print_frame(line, length, samples))
             return failed("standard output");
     }
     return 0;
@@ -85,9 +85,5 @@ static int run(const int16_t *tables, int16_t *state)
 
 int main(int argc, char **argv)
 {
-    if (argc != 2) {
-        fprintf(stderr, "usage: %s TABLES\n", argv[0]);
-        return 2;
-    }
-    return on_tables(argv[1], run);
+    return on_argument(argc, argv, run);
 }

@@ -60,8 +60,8 @@ static int run(const int16_t *tables, int16_t *state)
         for (index = 0; index < count.frames; index++) {
             code = decode(tables, state, payloads + n, index, line, &length, samples);
             if (code != HOLDAMEK_OK)
-                return refused(code, n + 1);
-            if (fwrite(line, 1, length, stdout) != length || putchar('\n') == EOF || !print_samples(samples))
+                return refused(code, n + 1); /* not reached: no frame of a payload that was counted is refused */
+            if (!print_frame(line, length, samples))
                 return failed("standard output");
         }
     }
@@ -70,9 +70,5 @@ static int run(const int16_t *tables, int16_t *state)
 
 int main(int argc, char **argv)
 {
-    if (argc != 2) {
-        fprintf(stderr, "usage: %s TABLES\n", argv[0]);
-        return 2;
-    }
-    return on_tables(argv[1], run);
+    return on_argument(argc, argv, run);
 }

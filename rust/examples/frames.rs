@@ -5,7 +5,7 @@
 
 mod common;
 
-use common::{on_tables, print, refused};
+use common::{on_tables, print_frame, refused};
 use holdamek::{Decoder, Frame, Refusal, Samples, SpeechParams, LONGEST_LINE};
 use std::io::{self, Write};
 use std::process::ExitCode;
@@ -48,11 +48,7 @@ fn run(decoder: &mut Decoder, out: &mut impl Write) -> io::Result<ExitCode> {
     for (number, step) in (1..).zip(&TRAFFIC) {
         let mut room = [0; LONGEST_LINE];
         match next(decoder, step, &mut room) {
-            Ok((line, samples)) => {
-                out.write_all(line)?;
-                out.write_all(b"\n")?;
-                print(&samples, out)?;
-            }
+            Ok((line, samples)) => print_frame(line, &samples, out)?,
             Err(refusal) => return refused(refusal, number, out),
         }
     }

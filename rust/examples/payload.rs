@@ -6,7 +6,7 @@
 
 mod common;
 
-use common::{on_tables, print, refused};
+use common::{on_tables, print_frame, refused};
 use holdamek::{Decoder, Frame, PayloadFrames, Refusal, Samples, LONGEST_LINE};
 use std::io::{self, Write};
 use std::process::ExitCode;
@@ -50,11 +50,8 @@ fn run(decoder: &mut Decoder, out: &mut impl Write) -> io::Result<ExitCode> {
         for frame in frames {
             let mut room = [0; LONGEST_LINE];
             match decode(decoder, &frame.into(), &mut room) {
-                Ok((line, samples)) => {
-                    out.write_all(line)?;
-                    out.write_all(b"\n")?;
-                    print(&samples, out)?;
-                }
+                Ok((line, samples)) => print_frame(line, &samples, out)?,
+                // Not reached: no frame of a payload that was counted is refused.
                 Err(refusal) => return refused(refusal, number, out),
             }
         }

@@ -44,6 +44,14 @@ pub fn print(samples: &Samples, out: &mut impl Write) -> io::Result<()> {
     out.write_all(b")\n")
 }
 
+/// The line of a frame and its samples.
+#[allow(dead_code)] // one program prints samples alone
+pub fn print_frame(line: &[u8], samples: &Samples, out: &mut impl Write) -> io::Result<()> {
+    out.write_all(line)?;
+    out.write_all(b"\n")?;
+    print(samples, out)
+}
+
 /// Prints a refusal.
 pub fn refused(refusal: Refusal, line: u32, out: &mut impl Write) -> io::Result<ExitCode> {
     writeln!(out, "(refused (code {}) (line {line}))", refusal.code())?;
