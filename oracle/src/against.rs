@@ -15,6 +15,7 @@ mod real;
 mod rng;
 mod rtp;
 mod rtp_compare;
+mod scan;
 mod speech;
 mod text;
 mod trials;
@@ -30,6 +31,7 @@ const USAGE: &str = "usage: g729-compare [--seed N] [--frames N] [--rounds N]
        g729-compare far SEED FRAMES
        g729-compare pack SEED N
        g729-compare rtp SEED N
+       g729-compare scan LIBRARY ..
   --seed N     of all that is drawn (1)
   --frames N   how many frames are compared, at least (200000)
   --rounds N   how often each class is timed (15); 0 leaves the measurement out";
@@ -39,6 +41,11 @@ const CALL: usize = 40;
 
 fn main() -> ExitCode {
     let args: Vec<String> = std::env::args().skip(1).collect();
+    if let [name, paths @ ..] = args.as_slice()
+        && name == "scan"
+    {
+        return scanned(paths);
+    }
     if let [name, seed, count] = args.as_slice()
         && let (Ok(seed), Ok(count)) = (seed.parse(), count.parse())
         && let Some(wrong) = subcommand(name, seed, count)
@@ -73,6 +80,16 @@ fn subcommand(name: &str, seed: u64, count: usize) -> Option<usize> {
         "pack" => Some(pack::run(seed, count)),
         "rtp" => Some(rtp_compare::run(seed, count)),
         _ => None,
+    }
+}
+
+fn scanned(paths: &[String]) -> ExitCode {
+    match scan::run(paths) {
+        Ok(differ) => ExitCode::from(u8::from(differ > 0)),
+        Err(error) => {
+            eprintln!("g729-compare: {error}");
+            ExitCode::from(2)
+        }
     }
 }
 

@@ -2,6 +2,7 @@
 
 mod blocks;
 mod compare;
+mod delays;
 mod far;
 mod far_list;
 mod generate;
@@ -47,7 +48,8 @@ const USAGE: &str = "usage:
   g729-oracle far SEED FRAMES
   g729-oracle far-list [SEED CASES FRAMES]
   g729-oracle far-answers
-  g729-oracle rtp SEED";
+  g729-oracle rtp SEED
+  g729-oracle delays";
 
 /// Bytes that are read or written at once.
 const BUFFER: usize = 1 << 20;
@@ -129,6 +131,11 @@ fn dispatch(args: &[&str]) -> Outcome {
         ["rtp", seed] => {
             let mut out = output();
             rtp::list(&mut out, number(seed)?).map_err(io_error)?;
+            finish(out)
+        }
+        ["delays"] => {
+            let mut out = output();
+            delays::list(&mut out).map_err(io_error)?;
             finish(out)
         }
         _ => Err(USAGE.to_string()),

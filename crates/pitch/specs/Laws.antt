@@ -16,6 +16,12 @@ use Rattle.basic_op.specs.Ops.{lesser}
 use Rattle.pitch.specs.declared.Delay.{Delay}
 use Rattle.pitch.specs.Pitch.{parity-ok, decode-t1, decode-t2, t-min, nat, increased, first, second, erased}
 
+-- ---- a third by a multiplication and a shift
+
+-- the quotient by three, rounded down, for every number from 0 to 198: P1 below 197 asks for a third of 198 at most, P2 for one of 33
+pub third-by-shift : (n : ℕ) → n ≤ 198 → n * 171 / 2 ^ 9 ≡ n / 3
+third-by-shift n h = omega arith
+
 -- ---- the fraction is a remainder less 1
 
 -- the delay n + (rest - 1) / 3
@@ -45,18 +51,18 @@ unfolding every sameZ
 t2-fraction p h =
     sameZ-yes _ _ (every-at 32 (λ n. sameZ (pos n -ℤ pos 2 -ℤ (pos ((n + 2) / 3) -ℤ pos 1) *ℤ pos 3) (pos (n + 2 - 3 * ((n + 2) / 3)) -ℤ pos 1)) tt p h)
 
--- the two forms of T1, and T2, by the code's quotient q
-pub t1-thirds : (p1 q : ℕ) → p1 % 256 < 197 → q ≡ (p1 % 256 + 2) / 3 → in-thirds (q + 19) (p1 % 256 + 2 - 3 * q) ≡ decode-t1 p1
+-- the two forms of T1, and T2, by the code's p, which are the low bits, and its quotient q
+pub t1-thirds : (p1 p q : ℕ) → p ≡ p1 % 256 → p < 197 → q ≡ (p + 2) / 3 → in-thirds (q + 19) (p + 2 - 3 * q) ≡ decode-t1 p1
 unfolding decode-t1
-t1-thirds p1 q h e = rw (e, lt-ltb (p1 % 256) 197 h, t1-fraction (p1 % 256) h)
+t1-thirds p1 p q l h e = rw (e, ← l, lt-ltb p 197 h, t1-fraction p h)
 
-pub t1-whole : (p1 : ℕ) → 197 ≤ p1 % 256 → in-thirds (p1 % 256 - 112) 1 ≡ decode-t1 p1
+pub t1-whole : (p1 p : ℕ) → p ≡ p1 % 256 → 197 ≤ p → in-thirds (p - 112) 1 ≡ decode-t1 p1
 unfolding decode-t1
-t1-whole p1 h = rw (le-ltb (p1 % 256) 197 h)
+t1-whole p1 p l h = rw (← l, le-ltb p 197 h)
 
-pub t2-thirds : (p2 q t : ℕ) (t1 : ℤ) → q ≡ (p2 % 32 + 2) / 3 → t ≡ t-min t1 → in-thirds (q + t - 1) (p2 % 32 + 2 - 3 * q) ≡ decode-t2 p2 t1
+pub t2-thirds : (p2 p q t : ℕ) (t1 : ℤ) → p ≡ p2 % 32 → q ≡ (p + 2) / 3 → t ≡ t-min t1 → in-thirds (q + t - 1) (p + 2 - 3 * q) ≡ decode-t2 p2 t1
 unfolding decode-t2
-t2-thirds p2 q t t1 e g = rw (e, g, t2-fraction (p2 % 32) (mod-lt p2 (lit< tt)))
+t2-thirds p2 p q t t1 l e g = rw (e, g, l, t2-fraction (p2 % 32) (mod-lt p2 (lit< tt)))
 
 -- ---- by the code's tests on y, which is z read back from its bits
 

@@ -1,7 +1,7 @@
 // The pitch delay (G.729): its parity (clause 3.7.2), the decoding of both subframes' delays (clauses 4.1.2 and 4.1.3), and the delay of an
 // erased subframe (clause 4.4.4).
 ghost use mathlib.Core.Path.{_≡_};
-ghost use Prim.Native.Nat.{_/_, _<_};
+ghost use Prim.Native.Nat.{_/_, _<_, _≤_};
 ghost use Rattle.pitch.specs.Pitch.{parity-ok, decode-t1, decode-t2, nat, t-min, track, carried, increased, first, second, erased, voice-delays, concealed-delays};
 ghost use Rattle.pitch.specs.Laws.{in-thirds};
 
@@ -36,11 +36,12 @@ pub fn parity_ok(p1: u16, p0: u16) -> bool
     (1 + p1 / 4 + p1 / 8 + p1 / 16 + p1 / 32 + p1 / 64 + p1 / 128) % 2 == p0 % 2
 }
 
-// A third, rounded down.
+// A third, rounded down, without a division.
 fn third(n: u16) -> u16
+    requires { ⌜ n ≤ 198 ⌝ }
     ensures { λ r. ⌜ r ≡ n / 3 ⌝ }
 {
-    n / 3
+    (n * 171) >> 9
 }
 
 // The delay n + (rest - 1) / 3.
@@ -68,7 +69,7 @@ pub fn nat(z: i16) -> u16
 pub fn decode_t1(p1: u16) -> Delay
     ensures { λ r. ⌜ r ≡ decode-t1 p1 ⌝ }
 {
-    let p = p1 % 256;
+    let p = p1 & 255;
     if p < 197 {
         let q = third(p + 2);
         return in_thirds(q + 19, p + 2 - 3 * q);
@@ -94,7 +95,7 @@ fn t_min(t1: i16) -> u16
 pub fn decode_t2(p2: u16, t1: i16) -> Delay
     ensures { λ r. ⌜ r ≡ decode-t2 p2 t1 ⌝ }
 {
-    let p = p2 % 32;
+    let p = p2 & 31;
     let q = third(p + 2);
     let least = t_min(t1);
     in_thirds(q + least - 1, p + 2 - 3 * q)

@@ -1,5 +1,7 @@
 -- `pitch::decode_t2` meets its contract. Assumes nothing.
 use mathlib.Core.Path.{_∙_, ap}
+use Prim.Native.Nat.{_<_}
+use lib.Bits.{bitAnd, and-mask, mask-lt}
 use borrow.Author.Needs.{needs}
 use mir.Facts.{toZ-ofZ}
 use Rattle.pitch.specs.Pitch.{t-min}
@@ -7,13 +9,16 @@ use Rattle.pitch.specs.Laws.{t2-thirds}
 use Rattle.pitch.proofs.decode_t2.Statement.{statement}
 use Rattle.pitch.proofs.decode_t2.Tie as tie
 
+low : (c : tie.Start) → bitAnd (c .args .p2) 31 < 32
+low c = mask-lt (c .args .p2) 5
+
 returns : tie.Need-returns
 returns c =
     let m = c .before in
-    c .in-thirds .ensures ∙ t2-thirds _ _ _ _ (m .before .third .ensures) (m .t-min .ensures ∙ ap t-min (toZ-ofZ (m .before .before .fits .t1)))
+    c .in-thirds .ensures ∙ t2-thirds _ _ _ _ _ (and-mask _ 5) (m .before .third .ensures) (m .t-min .ensures ∙ ap t-min (toZ-ofZ (m .before .before .fits .t1)))
 
 pub decode-t2-spec : {M : Type 1} → statement M
 decode-t2-spec =
     tie.close
-    (tie.spec (λ c. search needs) (λ c κs. search needs) (λ c κs. search needs) (λ c. search needs) (λ c. search needs) (λ c. search needs)
-    (λ c. search needs) (λ c. search needs) (λ c κs. search needs) returns)
+    (tie.spec (λ c. search (needs, low c)) (λ c κs. search (needs, low c)) (λ c κs. search needs) (λ c. search (needs, low (c .before .before))) (λ c. search (needs, low (c .before .before)))
+    (λ c. search (needs, low (c .before .before))) (λ c. search (needs, low (c .before .before))) (λ c. search (needs, low (c .before .before))) (λ c κs. search (needs, low (c .before .before))) returns)
