@@ -6,8 +6,8 @@ use std::io::{self, Write};
 use std::ops::RangeInclusive;
 
 const CARRIED: RangeInclusive<i16> = 19..=144;
-/// The bits above P1, P0 and P2 that are not read.
-const ABOVE: [u16; 3] = [!0xff, !1, !31];
+/// Bits above P1, P0 and P2, which are not read; above P1 an odd number of them, which a parity over more than P1 would tell.
+const ABOVE: [u16; 3] = [0x7f00, !1, !31];
 
 /// A line for each P1, with the check sums of all its frames, without the bits above the fields and with them; then that of erased frames.
 pub fn list(out: &mut impl Write) -> io::Result<()> {

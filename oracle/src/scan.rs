@@ -1,4 +1,4 @@
-//! Libraries of oracle/scan beside the Rust: both delay decoders on all that they tell apart, then the delays that each decodes a second.
+//! Libraries of oracle/scan beside the Rust: T1 and T2 compared, then how many of them each decodes a second.
 
 use crate::measure::seconds;
 use crate::rng::Rng;
@@ -6,9 +6,32 @@ use g729::delays::{self, SCANNED, Thirds};
 use std::ffi::{CStr, CString, c_char, c_int, c_void};
 use std::hint::black_box;
 
+/// The rounds that are timed, and the blocks of `SCANNED` delays that each decodes in turn.
 const ROUNDS: usize = 201;
-/// The delays that each decodes in turn, in blocks of `SCANNED`.
 const BLOCKS: usize = 16;
+/// T1 at the ends of what T2 tells apart, and far beyond.
+const ENDS: [i16; 20] = [
+    i16::MIN,
+    -1,
+    0,
+    19,
+    20,
+    24,
+    25,
+    26,
+    60,
+    85,
+    138,
+    139,
+    140,
+    141,
+    143,
+    144,
+    145,
+    148,
+    149,
+    i16::MAX,
+];
 
 type Fields = [u16; SCANNED];
 type Words = [i16; SCANNED];
@@ -22,7 +45,7 @@ struct Functions {
     scan_t2: extern "C" fn(&Fields, &Words, &mut Words, &mut Words),
 }
 
-/// Compares and times the libraries at these paths. Returns how many delays differ.
+/// Compares and times the libraries at these paths. Returns how many answers differ.
 pub fn run(paths: &[String]) -> Result<usize, String> {
     let rust = Functions {
         name: "Rust".to_string(),
@@ -34,12 +57,14 @@ pub fn run(paths: &[String]) -> Result<usize, String> {
     let libraries: Vec<Functions> = paths.iter().map(open).collect::<Result<_, _>>()?;
     let mut differ = 0;
     for library in &libraries {
-        let (t1, t2) = (first(library, &rust), second(library, &rust));
+        let [t1, t2] = [first(library, &rust), second(library, &rust)];
+        println!("{}: T1 of every 16-bit P1: {t1}", library.name);
         println!(
-            "{}: T1 of 65536 P1, {t1} differ; T2 of 65536 P2 with 20 T1 and of 32 P2 with 65536 T1, {t2} differ",
-            library.name
+            "{}: T2 of every 16-bit P2 with {} T1, and of 32 P2 with every T1: {t2}",
+            library.name,
+            ENDS.len()
         );
-        differ += t1 + t2;
+        differ += t1.differ + t2.differ;
     }
     println!();
     time(libraries.iter().chain([&rust]).collect());
@@ -49,119 +74,161 @@ pub fn run(paths: &[String]) -> Result<usize, String> {
 // ---- the libraries
 
 fn open(path: &String) -> Result<Functions, String> {
-    unsafe extern "C" {
-        fn dlopen(path: *const c_char, flags: c_int) -> *mut c_void;
-        fn dlsym(library: *mut c_void, name: *const c_char) -> *mut c_void;
-    }
-    const RTLD_NOW: c_int = 2;
-    let name = CString::new(path.as_str()).map_err(|e| e.to_string())?;
-    // SAFETY: the path ends with a zero byte.
-    let library = unsafe { dlopen(name.as_ptr(), RTLD_NOW) };
-    let symbol = |name: &CStr| {
-        // SAFETY: so does the name; null is no library, and tried first.
-        let found = match library.is_null() {
-            true => library,
-            false => unsafe { dlsym(library, name.as_ptr()) },
-        };
-        (!found.is_null())
-            .then_some(found)
-            .ok_or_else(|| format!("{path}: no {name:?}"))
-    };
-    // SAFETY: oracle/scan/src/lib.rt declares these functions so.
+    let library = Library::open(path)?;
+    // SAFETY: oracle/scan/lib.rt.in declares these functions so.
     unsafe {
         Ok(Functions {
             name: path.rsplit('/').next().unwrap_or(path).to_string(),
-            delay_t1: std::mem::transmute(symbol(c"delay_t1")?),
-            delay_t2: std::mem::transmute(symbol(c"delay_t2")?),
-            scan_t1: std::mem::transmute(symbol(c"scan_t1")?),
-            scan_t2: std::mem::transmute(symbol(c"scan_t2")?),
+            delay_t1: std::mem::transmute(library.function(c"delay_t1")?),
+            delay_t2: std::mem::transmute(library.function(c"delay_t2")?),
+            scan_t1: std::mem::transmute(library.function(c"scan_t1")?),
+            scan_t2: std::mem::transmute(library.function(c"scan_t2")?),
         })
     }
 }
 
+unsafe extern "C" {
+    fn dlopen(path: *const c_char, flags: c_int) -> *mut c_void;
+    fn dlsym(library: *mut c_void, name: *const c_char) -> *mut c_void;
+    fn dlerror() -> *const c_char;
+}
+
+/// A shared library, which stays open.
+struct Library(*mut c_void);
+
+impl Library {
+    fn open(path: &str) -> Result<Self, String> {
+        const RTLD_NOW: c_int = 2;
+        let name = CString::new(path).map_err(|e| e.to_string())?;
+        // SAFETY: the path ends with a zero byte.
+        found(unsafe { dlopen(name.as_ptr(), RTLD_NOW) }).map(Library)
+    }
+
+    fn function(&self, name: &CStr) -> Result<*mut c_void, String> {
+        // SAFETY: the library is open, and the name ends with a zero byte.
+        found(unsafe { dlsym(self.0, name.as_ptr()) })
+    }
+}
+
+/// What was found, or why not.
+fn found(address: *mut c_void) -> Result<*mut c_void, String> {
+    if !address.is_null() {
+        return Ok(address);
+    }
+    // SAFETY: behind a call that found nothing, the text of the reason.
+    let reason = unsafe { CStr::from_ptr(dlerror()) };
+    Err(reason.to_string_lossy().into_owned())
+}
+
 // ---- what is compared
 
-/// How many T1 differ.
-fn first(library: &Functions, rust: &Functions) -> usize {
+/// How many answers were compared, and how many differ.
+#[derive(Clone, Copy, Default)]
+struct Count {
+    compared: usize,
+    differ: usize,
+}
+
+impl Count {
+    fn add(&mut self, same: bool) {
+        self.compared += 1;
+        self.differ += usize::from(!same);
+    }
+}
+
+impl std::fmt::Display for Count {
+    fn fmt(&self, f: &mut std::fmt::Formatter<'_>) -> std::fmt::Result {
+        write!(
+            f,
+            "{} answers compared, {} differ",
+            self.compared, self.differ
+        )
+    }
+}
+
+/// T1, one a call and `SCANNED` a call.
+fn first(library: &Functions, rust: &Functions) -> Count {
     let all: Vec<u16> = (0..=u16::MAX).collect();
-    let single = all
-        .iter()
-        .filter(|p1| (library.delay_t1)(**p1) != (rust.delay_t1)(**p1));
-    let blocks = all.as_chunks::<SCANNED>().0.iter();
-    single.count()
-        + blocks
-            .map(|p1| unlike(scanned_t1(library, p1), scanned_t1(rust, p1)))
-            .sum::<usize>()
+    let (mut count, mut found, mut due) = (Count::default(), Room::new(), Room::new());
+    for p1 in all.as_chunks().0 {
+        for p1 in p1 {
+            count.add((library.delay_t1)(*p1) == (rust.delay_t1)(*p1));
+        }
+        found.t1(library, p1);
+        due.t1(rust, p1);
+        found.compare(&due, &mut count);
+    }
+    count
 }
 
-/// How many T2 differ: of every P2 at the ends of the delays and beyond, of every T1 with each P2.
-fn second(library: &Functions, rust: &Functions) -> usize {
-    let ends = [
-        i16::MIN,
-        -1,
-        0,
-        19,
-        20,
-        24,
-        25,
-        26,
-        60,
-        85,
-        138,
-        139,
-        140,
-        141,
-        143,
-        144,
-        145,
-        148,
-        149,
-        i16::MAX,
-    ];
-    let every_p2 = ends
-        .iter()
-        .flat_map(|t1| (0..=u16::MAX).map(|p2| (p2, *t1)));
+/// T2 likewise.
+fn second(library: &Functions, rust: &Functions) -> Count {
+    let every_p2 = ENDS.map(|t1| (0..=u16::MAX).map(move |p2| (p2, t1)));
     let every_t1 = (0..32).flat_map(|p2| (i16::MIN..=i16::MAX).map(move |t1| (p2, t1)));
-    let (p2, t1): (Vec<u16>, Vec<i16>) = every_p2.chain(every_t1).unzip();
-    let pairs = || p2.iter().copied().zip(t1.iter().copied());
-    let single =
-        pairs().filter(|(p2, t1)| (library.delay_t2)(*p2, *t1) != (rust.delay_t2)(*p2, *t1));
-    let blocks = p2.as_chunks().0.iter().zip(t1.as_chunks().0);
-    single.count()
-        + blocks
-            .map(|(p2, t1)| unlike(scanned_t2(library, p2, t1), scanned_t2(rust, p2, t1)))
-            .sum::<usize>()
+    let pairs = every_p2.into_iter().flatten().chain(every_t1);
+    let (p2, t1): (Vec<u16>, Vec<i16>) = pairs.unzip();
+    let (mut count, mut found, mut due) = (Count::default(), Room::new(), Room::new());
+    for (p2, t1) in p2.as_chunks().0.iter().zip(t1.as_chunks().0) {
+        for (p2, t1) in p2.iter().zip(t1) {
+            count.add((library.delay_t2)(*p2, *t1) == (rust.delay_t2)(*p2, *t1));
+        }
+        found.t2(library, p2, t1);
+        due.t2(rust, p2, t1);
+        found.compare(&due, &mut count);
+    }
+    count
 }
 
-fn scanned_t1(by: &Functions, p1: &Fields) -> [Words; 2] {
-    let (mut integer, mut fraction) = ([i16::MIN; SCANNED], [i16::MIN; SCANNED]);
-    (by.scan_t1)(p1, &mut integer, &mut fraction);
-    [integer, fraction]
+/// Room for the delays of one call.
+struct Room {
+    integer: Box<Words>,
+    fraction: Box<Words>,
 }
 
-fn scanned_t2(by: &Functions, p2: &Fields, t1: &Words) -> [Words; 2] {
-    let (mut integer, mut fraction) = ([i16::MIN; SCANNED], [i16::MIN; SCANNED]);
-    (by.scan_t2)(p2, t1, &mut integer, &mut fraction);
-    [integer, fraction]
-}
+impl Room {
+    fn new() -> Self {
+        let [integer, fraction] = [(); 2].map(|()| Box::new([i16::MIN; SCANNED]));
+        Room { integer, fraction }
+    }
 
-fn unlike(a: [Words; 2], b: [Words; 2]) -> usize {
-    (0..SCANNED)
-        .filter(|n| a[0][*n] != b[0][*n] || a[1][*n] != b[1][*n])
-        .count()
+    fn t1(&mut self, by: &Functions, p1: &Fields) {
+        (by.scan_t1)(p1, &mut self.integer, &mut self.fraction);
+    }
+
+    fn t2(&mut self, by: &Functions, p2: &Fields, t1: &Words) {
+        (by.scan_t2)(p2, t1, &mut self.integer, &mut self.fraction);
+    }
+
+    fn compare(&self, due: &Room, count: &mut Count) {
+        for n in 0..SCANNED {
+            let same = self.integer[n] == due.integer[n] && self.fraction[n] == due.fraction[n];
+            count.add(same);
+        }
+    }
 }
 
 // ---- the time
 
-/// Fields of frames, and the integer parts of their T1.
-struct Input {
+/// Fields of frames, the integer parts of their T1, and room for the answers, the same for all.
+struct Block {
     p1: Box<Fields>,
     p2: Box<Fields>,
     t1: Box<Words>,
+    room: Room,
 }
 
-/// What is timed: name, and what of an input one turn decodes.
-type Turn = (&'static str, fn(&Functions, &Input));
+impl Block {
+    fn draw(rng: &mut Rng) -> Self {
+        let p1: Box<Fields> = Box::new(std::array::from_fn(|_| rng.below(256) as u16));
+        let p2 = Box::new(std::array::from_fn(|_| rng.below(32) as u16));
+        let t1 = Box::new(p1.map(|p1| delays::delay_t1(p1).integer));
+        let room = Room::new();
+        Block { p1, p2, t1, room }
+    }
+}
+
+/// What is timed: its name, and what one turn does with a block.
+type Turn = (&'static str, fn(&Functions, &mut Block));
 
 const TURNS: [Turn; 4] = [
     ("T1, one a call", one_t1),
@@ -170,62 +237,54 @@ const TURNS: [Turn; 4] = [
     ("T2, 4096 a call", many_t2),
 ];
 
-fn one_t1(by: &Functions, input: &Input) {
-    for p1 in input.p1.iter() {
+fn one_t1(by: &Functions, block: &mut Block) {
+    for p1 in block.p1.iter() {
         black_box((by.delay_t1)(*p1));
     }
 }
 
-fn one_t2(by: &Functions, input: &Input) {
-    for (p2, t1) in input.p2.iter().zip(input.t1.iter()) {
+fn one_t2(by: &Functions, block: &mut Block) {
+    for (p2, t1) in block.p2.iter().zip(block.t1.iter()) {
         black_box((by.delay_t2)(*p2, *t1));
     }
 }
 
-fn many_t1(by: &Functions, input: &Input) {
-    black_box(scanned_t1(by, &input.p1));
+fn many_t1(by: &Functions, block: &mut Block) {
+    block.room.t1(by, &block.p1);
+    black_box(&mut block.room);
 }
 
-fn many_t2(by: &Functions, input: &Input) {
-    black_box(scanned_t2(by, &input.p2, &input.t1));
+fn many_t2(by: &Functions, block: &mut Block) {
+    block.room.t2(by, &block.p2, &block.t1);
+    black_box(&mut block.room);
 }
 
 /// Prints the delays a second of each, which take turns, by the median of their processor times.
 fn time(all: Vec<&Functions>) {
     let mut rng = Rng::new(1);
-    let inputs: Vec<Input> = (0..BLOCKS).map(|_| draw(&mut rng)).collect();
+    let mut blocks: Vec<Block> = (0..BLOCKS).map(|_| Block::draw(&mut rng)).collect();
     let delays = SCANNED * BLOCKS;
     println!(
-        "millions of delays a second, median of {ROUNDS} rounds of {delays} random delays, in turn"
+        "millions of delays a second, median of {ROUNDS} rounds of {delays} random ones, in turn"
     );
-    let names: Vec<String> = all.iter().map(|by| format!("{:>12}", by.name)).collect();
-    println!("{:16} {}", "", names.join("  "));
+    let header: String = all.iter().map(|by| format!("{:>8}", by.name)).collect();
+    println!("{:16}{header}", "");
     for (name, turn) in TURNS {
         let mut times = vec![Vec::new(); all.len()];
         for _ in 0..ROUNDS {
             for (by, times) in all.iter().zip(&mut times) {
                 let begin = seconds();
-                inputs
-                    .iter()
-                    .for_each(|input| turn(black_box(*by), black_box(input)));
+                for block in &mut blocks {
+                    turn(black_box(by), black_box(block));
+                }
                 times.push(seconds() - begin);
             }
         }
-        let speeds = times.into_iter().zip(&names).map(|(mut times, name)| {
+        let speed = |mut times: Vec<f64>| {
             times.sort_by(f64::total_cmp);
-            format!(
-                "{:w$.0}",
-                delays as f64 / times[ROUNDS / 2] / 1e6,
-                w = name.len()
-            )
-        });
-        println!("{name:16} {}", speeds.collect::<Vec<_>>().join("  "));
+            format!("{:8.0}", delays as f64 / times[ROUNDS / 2] / 1e6)
+        };
+        let row: String = times.into_iter().map(speed).collect();
+        println!("{name:16}{row}");
     }
-}
-
-fn draw(rng: &mut Rng) -> Input {
-    let p1: Box<Fields> = Box::new(std::array::from_fn(|_| rng.below(256) as u16));
-    let p2 = Box::new(std::array::from_fn(|_| rng.below(32) as u16));
-    let t1 = Box::new(p1.map(|p1| delays::delay_t1(p1).integer));
-    Input { p1, p2, t1 }
 }

@@ -1,4 +1,4 @@
--- Laws of the delays: fractions as remainders, and ranges. Assumes nothing.
+-- Laws of the delays: a third without a division, fractions as remainders, and ranges. Assumes nothing.
 use Prim.Native.Nat.{ℕ, zero, suc, _+_, _-_, _*_, _/_, _%_, _^_, _≤_, _<_}
 use mathlib.Core.Path.{_≡_, refl, ap, subst}
 use mathlib.Core.Bool.{Bool, true, false, cond, not, _&&_}

@@ -36,7 +36,7 @@ pub fn parity_ok(p1: u16, p0: u16) -> bool
     (1 + p1 / 4 + p1 / 8 + p1 / 16 + p1 / 32 + p1 / 64 + p1 / 128) % 2 == p0 % 2
 }
 
-// A third, rounded down, without a division.
+// A third, rounded down, without a division (`third-by-shift`).
 fn third(n: u16) -> u16
     requires { ⌜ n ≤ 198 ⌝ }
     ensures { λ r. ⌜ r ≡ n / 3 ⌝ }

@@ -1,5 +1,5 @@
 // The delays of every P1 with both P0, every P2 and every carried delay that 01 accepts: a line for each P1, with the CRC-32 of all that `voice_delays` gives, first
-// for the fields as they are, then with every bit above them set, which is not read. The last line is that of erased frames. `g729-oracle delays` writes what
+// for the fields as they are, then with bits set above them, which are not read. The last line is that of erased frames. `g729-oracle delays` writes what
 // must be printed, from the Rust.
 use libc::STDOUT_FILENO;
 use pitch::Delays;
@@ -10,8 +10,8 @@ const LEAST: u16 = 19;
 
 const PAST: u16 = 145;
 
-// The bits above a field.
-const ABOVE_P1: u16 = 65280;
+// The bits above a field; above P1 an odd number of them, which a parity over more than P1 would tell.
+const ABOVE_P1: u16 = 32512;
 
 const ABOVE_P0: u16 = 65534;
 

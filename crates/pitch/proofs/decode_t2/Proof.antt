@@ -9,8 +9,12 @@ use Rattle.pitch.specs.Laws.{t2-thirds}
 use Rattle.pitch.proofs.decode_t2.Statement.{statement}
 use Rattle.pitch.proofs.decode_t2.Tie as tie
 
+-- the five low bits are below 32, at the start and behind both calls
 low : (c : tie.Start) → bitAnd (c .args .p2) 31 < 32
 low c = mask-lt (c .args .p2) 5
+
+behind : (c : tie.After-t-min) → bitAnd (c .before .before .args .p2) 31 < 32
+behind c = low (c .before .before)
 
 returns : tie.Need-returns
 returns c =
@@ -20,5 +24,5 @@ returns c =
 pub decode-t2-spec : {M : Type 1} → statement M
 decode-t2-spec =
     tie.close
-    (tie.spec (λ c. search (needs, low c)) (λ c κs. search (needs, low c)) (λ c κs. search needs) (λ c. search (needs, low (c .before .before))) (λ c. search (needs, low (c .before .before)))
-    (λ c. search (needs, low (c .before .before))) (λ c. search (needs, low (c .before .before))) (λ c. search (needs, low (c .before .before))) (λ c κs. search (needs, low (c .before .before))) returns)
+    (tie.spec (λ c. search (needs, low c)) (λ c κs. search (needs, low c)) (λ c κs. search needs) (λ c. search (needs, behind c)) (λ c. search (needs, behind c))
+    (λ c. search (needs, behind c)) (λ c. search (needs, behind c)) (λ c. search (needs, behind c)) (λ c κs. search (needs, behind c)) returns)
