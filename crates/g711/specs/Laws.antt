@@ -52,6 +52,10 @@ same-false x y e g =
 pub record Meets (rule : ℕ → ℤ) (l : List ℤ) : Type 0 where
   pub each : (b : ℕ) → b < 256 → at l b ≡ rule b
 
+-- the samples of bytes by a table: those of the rule that it meets
+pub record Expanded (t : List ℤ) (bytes : List ℕ) (out : List ℤ) : Type 0 where
+  pub by : (rule : ℕ → ℤ) → Meets rule t → ((k : ℕ) → getD bytes k 0 < 256) → out ≡ map rule bytes
+
 -- the test of all entries, and the lemma that both tables share
 unfoldable pub meets : (ℕ → ℤ) → List ℤ → Bool
 meets rule l = every 256 (λ k. sameZ (at l k) (rule k))
@@ -490,10 +494,18 @@ module _ (law : ℕ) (e : known law ≡ true) where
         let h = all-fit law e samples (each-faultless (form law) samples (length samples) f) in
         rw (e, eq-eqb (length before) (length samples) n, h .0) (ap (written 0) (g ∙ h .1))
 
-  pub read-done : (bytes : List ℕ) (before t out : List ℤ) → length bytes ≡ length before → ((k : ℕ) → getD bytes k 0 < 256) → Meets (value law) t → out ≡ map (at t) bytes
-      → read 0 out ≡ read-call law bytes before
-  unfolding read-call refusal
-  read-done bytes before t out n h m g = rw (e, eq-eqb (length bytes) (length before) n) (ap (read 0) (g ∙ met (value law) t bytes m h))
+  module _ (bytes : List ℕ) (before out : List ℤ) (n : length bytes ≡ length before) where
+    read-done : out ≡ map (value law) bytes → read 0 out ≡ read-call law bytes before
+    unfolding read-call refusal
+    read-done g = rw (e, eq-eqb (length bytes) (length before) n) (ap (read 0) g)
+
+    pub read-a : law ≡ 1 → out ≡ map a bytes → read 0 out ≡ read-call law bytes before
+    unfolding value
+    read-a f g = let e : (b : ℕ) → a b ≡ value law b = λ b. sym (rw (eq-eqb law 1 f)) in read-done (g ∙ (λ i. map (λ b. e b i) bytes))
+
+    pub read-mu : (law ≡ 1 → ⊥) → out ≡ map mu bytes → read 0 out ≡ read-call law bytes before
+    unfolding value
+    read-mu f g = let e : (b : ℕ) → mu b ≡ value law b = λ b. sym (rw (ne-eqb law 1 f)) in read-done (g ∙ (λ i. map (λ b. e b i) bytes))
 
 pub bias-le : (law : ℕ) (f : Form) → f ≡ form law → f .bias ≤ 132
 unfolding form
@@ -605,14 +617,3 @@ float-no-nan n h = no-nan binary32 16 (ofInt binary32 (pos n)) (unsigned-back bi
 pub leading-lt : (n : ℕ) → leading n < 8192
 unfolding leading
 leading-lt n = let h : toBits binary32 (ofInt binary32 (pos n)) < 4294967296 = toBits-lt binary32 (ofInt binary32 (pos n)) (ofInt-fits binary32 (pos n)) in omega arith
-
--- ---- the tables, by the code's test of the law
-
-module _ (law : ℕ) (l : List ℤ) where
-  pub a-table : law ≡ 1 → T (meets a l) → Meets (value law) l
-  unfolding value
-  a-table e t = record { each = λ b h. entry a l t .each b h ∙ sym (rw (eq-eqb law 1 e)) }
-
-  pub mu-table : (law ≡ 1 → ⊥) → T (meets mu l) → Meets (value law) l
-  unfolding value
-  mu-table n t = record { each = λ b h. entry mu l t .each b h ∙ sym (rw (ne-eqb law 1 n)) }

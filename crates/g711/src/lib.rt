@@ -1,14 +1,12 @@
 // G.711: A-law and mu-law bytes as samples of 16 bits, from stored tables, and samples back to bytes (change request 8; ITU-T G.711).
 ghost use mathlib.Core.Path.{_≡_};
 ghost use mathlib.Core.List.{map};
-ghost use Prim.Native.Nat.{_+_, _≤_, _<_};
+ghost use Prim.Native.Nat.{_≤_, _<_};
 ghost use lib.IntN.{natAbs};
 ghost use lib.ListN.{length};
-ghost use Rattle.laws.specs.Lists.{at};
-ghost use Rattle.laws.specs.Loops.{steps};
-ghost use Rattle.g711.specs.G711.{value, known, refusal, Read, Written, read-call, write-call};
+ghost use Rattle.g711.specs.G711.{a, mu, known, refusal, Read, Written, read-call, write-call};
+ghost use Rattle.g711.specs.Laws.{Expanded};
 ghost use Rattle.g711.specs.Fast.{form, lifted, sized, lowest, fault, faults, leading, sign-bit, segment-less, guess};
-ghost use Rattle.g711.specs.Laws.{Meets};
 
 mod tables;
 
@@ -45,26 +43,34 @@ fn refusal(law: u32, bytes: usize, samples: usize) -> u32
 
 // ---- bytes to samples
 
-// The table of a law: entry b is the sample of byte b.
-fn table(law: u32) -> [i16; 256]
-    ensures { λ r. ⌜ Meets (value law) r ⌝ }
-{
-    if law == A {
-        return A_LAW;
-    }
-    MU_LAW
-}
-
-// The samples of bytes by a table.
+// The samples of bytes by a table, of which each entry is what a rule gives.
 fn expand(t: &[i16; 256], bytes: &[u8], samples: &mut [i16])
     requires { ⌜ length (now bytes) ≡ length (now samples) ⌝ }
-    ensures { λ r. ⌜ now (samples .exit) ≡ map (at (now (t .entry))) (now (bytes .entry)) ⌝ }
+    ensures { λ r. ⌜ Expanded (now (t .entry)) (now (bytes .entry)) (now (samples .exit)) ⌝ }
 {
     let mut i = 0;
     while i < samples.len() {
         samples[i] = t[bytes[i] as usize];
         i += 1;
     }
+}
+
+// The samples of A-law bytes.
+fn expand_a(bytes: &[u8], samples: &mut [i16])
+    requires { ⌜ length (now bytes) ≡ length (now samples) ⌝ }
+    ensures { λ r. ⌜ now (samples .exit) ≡ map a (now (bytes .entry)) ⌝ }
+{
+    let t = A_LAW;
+    expand(&t, bytes, samples);
+}
+
+// The samples of mu-law bytes.
+fn expand_mu(bytes: &[u8], samples: &mut [i16])
+    requires { ⌜ length (now bytes) ≡ length (now samples) ⌝ }
+    ensures { λ r. ⌜ now (samples .exit) ≡ map mu (now (bytes .entry)) ⌝ }
+{
+    let t = MU_LAW;
+    expand(&t, bytes, samples);
 }
 
 // The samples of a law's bytes. Refusals 16, 7.
@@ -75,8 +81,11 @@ pub fn read(law: u32, bytes: &[u8], samples: &mut [i16]) -> u32
     if code != 0 {
         return code;
     }
-    let t = table(law);
-    expand(&t, bytes, samples);
+    if law == A {
+        expand_a(bytes, samples);
+        return 0;
+    }
+    expand_mu(bytes, samples);
     0
 }
 

@@ -9,7 +9,7 @@ use mir.Syntax.{w16}
 use borrow.Author.Needs.{needs}
 use Rattle.laws.specs.Back.{via}
 use Rattle.laws.specs.Lists.{at}
-use Rattle.g711.specs.Laws.{map-none, map-turn, map-end}
+use Rattle.g711.specs.Laws.{met, map-none, map-turn, map-end}
 use Rattle.g711.proofs.expand.Statement.{statement}
 use Rattle.g711.proofs.expand.Tie as tie
 
@@ -52,7 +52,11 @@ loop-again c =
     )
 
 returns : tie.Need-returns Inv-loop μ-loop
-returns c = let l = c .before .loop in map-end (at (c .before .before .args .t .now)) (c .before .before .args .bytes .now) _ (l .samples) (l .i) (l .inv .2) (omega (arith, l .inv .1)) (c .before .before .pre)
+returns c =
+    let l = c .before .loop in
+    let s = c .before .before in
+    let e = map-end (at (s .args .t .now)) (s .args .bytes .now) _ (l .samples) (l .i) (l .inv .2) (omega (arith, l .inv .1)) (s .pre) in
+    record { by = λ rule m h. e ∙ met rule (s .args .t .now) (s .args .bytes .now) m h }
 
 pub expand-spec : {M : Type 1} → statement M
 expand-spec =
