@@ -90,6 +90,5 @@ read-call law bytes before =
 unfoldable pub write-call : ℕ → List ℤ → List ℕ → Written
 write-call law samples before =
     let n : ℕ = refusal law (length before) (length samples) in
-    cond (eqb n 0)
-    (cond (all-values law samples) (written 0 (map (byte-of law) samples)) (written 17 before))
-    (written n before)
+    let code : ℕ = cond (eqb n 0) (cond (all-values law samples) 0 17) n in
+    cond (eqb code 0) (written 0 (map (byte-of law) samples)) (written code before)

@@ -483,7 +483,8 @@ module _ (law : ℕ) (e : known law ≡ true) where
     unfolding write-call refusal
     write-none f = rw (e, eq-eqb (length before) (length samples) n) (by (all-values law samples) refl)
       where
-        by : (t : Bool) → all-values law samples ≡ t → written 17 before ≡ cond t (written 0 (map (byte-of law) samples)) (written 17 before)
+        by : (t : Bool) → all-values law samples ≡ t
+            → written 17 before ≡ cond (eqb (cond t 0 17) 0) (written 0 (map (byte-of law) samples)) (written (cond t 0 17) before)
         by true v = absurd (f (all-faultless (form law) samples (length samples) (each-fits law e samples v)))
         by false v = refl
 
@@ -539,7 +540,7 @@ read-refused law bytes before code c n = rw (← c, ne-eqb code 0 n)
 pub write-refused : (law : ℕ) (samples : List ℤ) (before : List ℕ) (code : ℕ) → code ≡ refusal law (length before) (length samples) → (code ≡ 0 → ⊥)
     → written code before ≡ write-call law samples before
 unfolding write-call
-write-refused law samples before code c n = rw (← c, ne-eqb code 0 n)
+write-refused law samples before code c n = rw (← c, ne-eqb code 0 n, ne-eqb code 0 n)
 
 -- ---- words of 16 bits, by the code's test on y, which is z read back
 

@@ -32,10 +32,12 @@ fn known(law: u32) -> bool
 fn refusal(law: u32, bytes: usize, samples: usize) -> u32
     ensures { λ r. ⌜ r ≡ refusal law bytes samples ⌝ }
 {
-    if !known(law) {
+    let named = known(law);
+    let equal = bytes == samples;
+    if !named {
         return 16;
     }
-    if bytes != samples {
+    if !equal {
         return 7;
     }
     0
