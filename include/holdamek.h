@@ -1,5 +1,5 @@
-/* Holdamek: the six operations of a G.729 voice path, the writing of lines and of voice frames, the frames of an RTP payload, the agreement of two decoders and
- * the comparison with a far one, as C functions (x86-64 Linux; C99 or later, C++).
+/* Holdamek: the six operations of a G.729 voice path, the writing of lines and of voice frames, the frames of an RTP payload, G.711 legs, the agreement of two
+ * decoders and the comparison with a far one, as C functions (x86-64 Linux; C99 or later, C++).
  * `rt staticlib holdamek` makes target/staticlib/libholdamek.a:  cc -Iinclude program.c target/staticlib/libholdamek.a
  * Installed (`make install`):  cc program.c $(pkg-config --cflags --libs holdamek)
  *
@@ -10,8 +10,8 @@
  * of stack are enough (5.3 KB were measured for holdamek_frame).
  *
  * A length counts elements, not bytes. A wrong length is refused before the memory is touched; so NULL with length 0 is refused where
- * another length is due, and is right for the payload of HOLDAMEK_NO_TRANSMISSION and HOLDAMEK_ERASED. The bytes of an RTP payload are
- * never read; NULL is right for an empty one.
+ * another length is due, and is right for the payload of HOLDAMEK_NO_TRANSMISSION and HOLDAMEK_ERASED, and for the bytes and samples of an
+ * empty G.711 leg. The bytes of an RTP payload are never read; NULL is right for an empty one.
  *
  * What no function can notice, and the caller sees to: a pointer with a right length that isn't 0 isn't NULL and points to that much memory of its type;
  * `kind`, `frames`, `lost`, `length`, `agreement`, `what`, `number` and `rest` are never NULL; and what is lent for writing overlaps nothing else that is lent in the
@@ -23,9 +23,9 @@
 #include <stdint.h>
 
 /* The version of header and library; the shared library has the first number in its name. */
-#define HOLDAMEK_VERSION "0.6.0"
+#define HOLDAMEK_VERSION "0.7.0"
 #define HOLDAMEK_VERSION_MAJOR 0
-#define HOLDAMEK_VERSION_MINOR 6
+#define HOLDAMEK_VERSION_MINOR 7
 #define HOLDAMEK_VERSION_PATCH 0
 
 #ifdef __cplusplus
@@ -74,6 +74,13 @@ enum holdamek_field {
     HOLDAMEK_GB2 = 14                 /* 4 bits */
 };
 
+/* The laws of G.711, by which a byte is read as a sample. s is the top bit, e the next three and m the low four of the byte with the bits of 55 hexadecimal
+ * flipped (A-law), or with all flipped (mu-law). */
+enum holdamek_law {
+    HOLDAMEK_A_LAW = 1,               /* the size is 16 m + 8 for e = 0, else (16 m + 264) 2^(e - 1); positive if s is 1 */
+    HOLDAMEK_MU_LAW = 2               /* the size is (8 m + 132) 2^e - 132; negative if s is 1 */
+};
+
 /* How far two decoders agree from here on, with the same tables, through every list of frames (of any kinds, losses too) that both receive. */
 enum holdamek_agreement {
     HOLDAMEK_AGREE_NOTHING = 0,       /* nothing can be said; it is not said that they differ */
@@ -101,14 +108,16 @@ enum holdamek_refusal {
     HOLDAMEK_STATE_VALUES = 4,        /* in the state block, or in the memory of a comparison, the predictor isn't 0 or 1, or the delay is outside 19..144 */
     HOLDAMEK_KIND_ABOVE_3 = 5,        /* there is no such kind of frame */
     HOLDAMEK_PAYLOAD_LENGTH = 6,      /* the payload isn't 10, 2, 0, 0 bytes for kinds 0 to 3; for fields and their writing: not ten bytes */
-    HOLDAMEK_OUTPUT_LENGTH = 7,       /* the output isn't 80 words, or there aren't 80 far samples; for the writing of a line: not 36 bytes */
+    HOLDAMEK_OUTPUT_LENGTH = 7,       /* the output isn't 80 words, or there aren't 80 far samples; for the writing of a line: not 36 bytes; for G.711: not as many bytes as samples */
     HOLDAMEK_RECEIVER_LENGTH = 8,     /* the receiver of fields isn't 15 numbers; for the writing of fields: there are not 15, or not 14 without P0 */
     HOLDAMEK_LINE_FORM = 9,           /* the line isn't one of the four forms */
     HOLDAMEK_COUNT_LIMIT = 10,        /* a count is 360,000 or more already */
     HOLDAMEK_LINE_ROOM = 11,          /* the room for a line's payload isn't ten bytes */
     HOLDAMEK_PAYLOAD_REMAINDER = 12,  /* the length of the RTP payload leaves a remainder other than 0 or 2 by ten */
     HOLDAMEK_FRAME_INDEX = 13,        /* the index isn't below the number of frames of the RTP payload */
-    HOLDAMEK_FIELD_WIDTH = 15         /* a field exceeds its width */
+    HOLDAMEK_FIELD_WIDTH = 15,        /* a field exceeds its width */
+    HOLDAMEK_OTHER_LAW = 16,          /* the law is neither 1 nor 2 */
+    HOLDAMEK_TABLE_VALUE = 17         /* a sample isn't a table value of the law: no byte is read as it */
 };
 
 /* How many frames an RTP payload has. */
@@ -164,6 +173,13 @@ struct holdamek_frame_count holdamek_payload_frames(const uint8_t *payload, size
 /* The frame of an index, from 0, of an RTP payload: its kind, and the part of the payload that it occupies, which isn't copied. holdamek_frame and
  * holdamek_write_line take payload + start and length with that kind. Joined in index order, the parts are the payload. Refusals 12, 13. */
 struct holdamek_frame_part holdamek_payload_frame(const uint8_t *payload, size_t payload_length, size_t index);
+
+/* Reads the bytes of a G.711 leg, or of a part of it, by a law, one of enum holdamek_law: writes a sample for each. Refusals 16, 7. */
+uint32_t holdamek_g711_read(uint32_t law, const uint8_t *bytes, size_t bytes_length, int16_t *samples, size_t samples_length);
+
+/* Turns samples back into the bytes that are read as these; mu-law 0, which 7F and FF are read as, into FF. So every byte that was read comes back, but for
+ * mu-law 7F. No sample is rounded: one that no byte is read as is refused, and no byte is written then. Refusals 16, 7, 17. */
+uint32_t holdamek_g711_write(uint32_t law, const int16_t *samples, size_t samples_length, uint8_t *bytes, size_t bytes_length);
 
 /* Counts a frame: adds 1 to `frames`, and for kinds 1 to 3 to `lost`. Refusals 5, 10. */
 uint32_t holdamek_count(uint32_t kind, uint32_t *frames, uint32_t *lost);

@@ -710,6 +710,186 @@ static void of_payloads(void)
     CHECK(memcmp(payload, before, sizeof payload) == 0);
 }
 
+enum { MORE_LEG = 300 };
+
+/* A leg, its bytes and its samples, with a mark before each and one behind. The mark of samples, MARK, isn't a value of either law. */
+static uint8_t leg[1 + MORE_LEG + 1], leg_before[1 + MORE_LEG + 1];
+static int16_t words[1 + MORE_LEG + 1], words_before[1 + MORE_LEG + 1];
+
+static void keep_leg(void)
+{
+    memcpy(leg_before, leg, sizeof leg);
+    memcpy(words_before, words, sizeof words);
+}
+
+static int kept_leg(void)
+{
+    return memcmp(leg_before, leg, sizeof leg) == 0 && memcmp(words_before, words, sizeof words) == 0;
+}
+
+static void mark_leg(void)
+{
+    size_t n;
+
+    memset(leg, MARK_BYTE, sizeof leg);
+    for (n = 0; n < MORE_LEG + 2; n++)
+        words[n] = MARK;
+    keep_leg();
+}
+
+/* The sample of a byte, by the rule of a law (enum holdamek_law). */
+static int16_t value(uint32_t law, unsigned byte)
+{
+    unsigned flipped = byte ^ (law == HOLDAMEK_A_LAW ? 0x55u : 0xffu), s = flipped >> 7, e = flipped >> 4 & 7;
+    int m = (int)(flipped & 15), size;
+
+    if (law == HOLDAMEK_A_LAW)
+        size = e == 0 ? 16 * m + 8 : (16 * m + 264) << (e - 1);
+    else
+        size = ((8 * m + 132) << e) - 132;
+    return (int16_t)((s == 1) == (law == HOLDAMEK_A_LAW) ? size : -size);
+}
+
+/* Whether reading and writing refuse this law and these numbers of bytes and samples, each with its number, and leave all memory as it was. */
+static int leg_refused(uint32_t law, size_t b, size_t s, uint32_t reading, uint32_t writing)
+{
+    return holdamek_g711_read(law, leg + 1, b, words + 1, s) == reading && holdamek_g711_write(law, words + 1, s, leg + 1, b) == writing && kept_leg();
+}
+
+/* The same with no memory at all: none is touched. */
+static int unread(uint32_t law, size_t b, size_t s, uint32_t due)
+{
+    return holdamek_g711_read(law, NULL, b, NULL, s) == due && holdamek_g711_write(law, NULL, s, NULL, b) == due;
+}
+
+/* Other laws, with lengths that are equal or not and samples that are no values: the law comes first. */
+static void of_other_laws(void)
+{
+    static const uint32_t other[] = {0, 3, 4, 255, 256, 257, 258, 65535, 65536, 65537, 65538, 0x7fffffffu, 0x80000001u, 0x80000002u, 0xfffffffeu, 0xffffffffu};
+    static const size_t pairs[][2] = {{0, 0}, {0, 1}, {1, 0}, {1, 1}, {80, 80}, {80, 79}, {300, 300}, {(size_t)-1, (size_t)-1}, {(size_t)-1, 0}};
+    size_t n, k;
+
+    mark_leg();
+    for (n = 0; n < sizeof other / sizeof *other; n++)
+        for (k = 0; k < sizeof pairs / sizeof *pairs; k++)
+            check(leg_refused(other[n], pairs[k][0], pairs[k][1], HOLDAMEK_OTHER_LAW, HOLDAMEK_OTHER_LAW) &&
+                      unread(other[n], pairs[k][0], pairs[k][1], HOLDAMEK_OTHER_LAW),
+                  "another law is refused first");
+}
+
+/* Numbers of bytes and samples that aren't equal, with samples that are no values: the numbers come before the values. */
+static void of_leg_lengths(uint32_t law)
+{
+    const uint32_t due = HOLDAMEK_OUTPUT_LENGTH;
+    size_t b, s;
+
+    mark_leg();
+    for (b = 0; b <= MORE_LEG; b++)
+        for (s = 0; s <= MORE_LEG; s++)
+            if (b != s)
+                check(leg_refused(law, b, s, due, due), "not as many bytes as samples is refused");
+    for (b = 1; b != 0; b *= 2)
+        for (s = 0; s < 3; s++)
+            check(unread(law, s + b, s, due) && unread(law, s, s + b, due) && leg_refused(law, s + b, s, due, due) && leg_refused(law, s, s + b, due, due),
+                  "lengths that differ by one bit are refused unread");
+    CHECK(unread(law, (size_t)-1, 0, due) && unread(law, 0, (size_t)-1, due) && unread(law, 80, 79, due) && unread(law, 79, 80, due));
+    CHECK(unread(law, 0, 0, HOLDAMEK_OK) && leg_refused(law, 0, 0, HOLDAMEK_OK, HOLDAMEK_OK));
+    /* Equal numbers: only the values are left to be refused. */
+    for (b = 1; b <= MORE_LEG; b++)
+        check(holdamek_g711_write(law, words + 1, b, leg + 1, b) == HOLDAMEK_TABLE_VALUE && kept_leg(), "a sample that is no value is refused last");
+}
+
+/* Every byte by itself and back, and every sample by itself. */
+static void of_values(uint32_t law)
+{
+    static const uint32_t number[] = {0, 256, 255};
+    unsigned byte, taken = 0;
+    int sample;
+
+    mark_leg();
+    for (byte = 0; byte < 256; byte++) {
+        int16_t due = value(law, byte);
+        uint8_t back = (uint8_t)(law == HOLDAMEK_MU_LAW && byte == 0x7f ? 0xff : byte);
+
+        leg[1] = (uint8_t)byte;
+        keep_leg();
+        CHECK(holdamek_g711_read(law, leg + 1, 1, words + 1, 1) == HOLDAMEK_OK && words[1] == due && leg[1] == byte);
+        leg[1] = MARK_BYTE;
+        CHECK(holdamek_g711_write(law, words + 1, 1, leg + 1, 1) == HOLDAMEK_OK && words[1] == due && leg[1] == back);
+        leg[1] = leg_before[1];
+        words[1] = words_before[1];
+        CHECK(kept_leg());
+    }
+    for (sample = -32768; sample < 32768; sample++) {
+        uint32_t code;
+
+        mark_leg();
+        words[1] = (int16_t)sample;
+        keep_leg();
+        code = holdamek_g711_write(law, words + 1, 1, leg + 1, 1);
+        if (code == HOLDAMEK_OK) {
+            taken++;
+            check(value(law, leg[1]) == sample && (sample != 0 || leg[1] == 0xff), "a sample becomes a byte that is read as it");
+            leg[1] = leg_before[1];
+        } else {
+            check(code == HOLDAMEK_TABLE_VALUE, "another sample is refused");
+        }
+        check(kept_leg(), "nothing else is written");
+    }
+    CHECK(taken == number[law]);
+}
+
+/* Legs of every length, read and turned back, with what lies beside them left alone; then with one sample that is no value, at every place. */
+static void of_legs(uint32_t law)
+{
+    size_t length, n;
+    unsigned next = 0;
+
+    for (length = 0; length <= MORE_LEG; length++) {
+        int good = 1;
+
+        mark_leg();
+        for (n = 1; n <= length; n++)
+            leg[n] = leg_before[n] = (uint8_t)(next++ * 7);
+        CHECK(holdamek_g711_read(law, leg + 1, length, words + 1, length) == HOLDAMEK_OK && memcmp(leg, leg_before, sizeof leg) == 0);
+        for (n = 0; n < MORE_LEG + 2; n++)
+            good = good && words[n] == (n >= 1 && n <= length ? value(law, leg[n]) : words_before[n]);
+        memcpy(words_before, words, sizeof words);
+        memset(leg, MARK_BYTE, sizeof leg);
+        CHECK(holdamek_g711_write(law, words + 1, length, leg + 1, length) == HOLDAMEK_OK && memcmp(words, words_before, sizeof words) == 0);
+        for (n = 1; n <= length; n++)
+            good = good && leg[n] == (law == HOLDAMEK_MU_LAW && leg_before[n] == 0x7f ? 0xff : leg_before[n]);
+        check(good && kept_leg() == (law == HOLDAMEK_A_LAW || memchr(leg_before, 0x7f, sizeof leg) == NULL), "a leg is read and turned back");
+    }
+    for (n = 1; n <= MORE_LEG; n++) {
+        keep_leg();
+        words[n] = (int16_t)(words[n] ^ 1);
+        memset(leg, MARK_BYTE, sizeof leg);
+        memcpy(leg_before, leg, sizeof leg);
+        check(holdamek_g711_write(law, words + 1, MORE_LEG, leg + 1, MORE_LEG) == HOLDAMEK_TABLE_VALUE && memcmp(leg, leg_before, sizeof leg) == 0,
+              "a sample that is no value is refused before a byte is written");
+        words[n] = (int16_t)(words[n] ^ 1);
+        CHECK(memcmp(words, words_before, sizeof words) == 0);
+    }
+}
+
+/* Both laws. */
+static void of_g711(void)
+{
+    static const uint8_t mu[2] = {0x00, 0x80}, a[2] = {0xd5, 0x55};
+    int16_t two[2];
+    uint32_t law;
+
+    CHECK(holdamek_g711_read(HOLDAMEK_MU_LAW, mu, 2, two, 2) == HOLDAMEK_OK && two[0] == -32124 && two[1] == 32124);
+    CHECK(holdamek_g711_read(HOLDAMEK_A_LAW, a, 2, two, 2) == HOLDAMEK_OK && two[0] == 8 && two[1] == -8);
+    of_other_laws();
+    for (law = HOLDAMEK_A_LAW; law <= HOLDAMEK_MU_LAW; law++) {
+        of_leg_lengths(law);
+        of_values(law);
+        of_legs(law);
+    }
+}
+
 int main(void)
 {
     size_t n;
@@ -733,6 +913,7 @@ int main(void)
     of_compare();
     of_writing();
     of_payloads();
+    of_g711();
     CHECK(tables[HOLDAMEK_TABLE_WORDS] == MARK);
     printf("border: %d checks, %d failed\n", checks, failed);
     return failed != 0;

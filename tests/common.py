@@ -7,7 +7,7 @@ COMPARE = os.path.abspath(os.environ.get("COMPARE", os.path.join(ROOT, "target/b
 PAYLOADS = os.path.abspath(os.environ.get("PAYLOADS", os.path.join(ROOT, "target/bin/payloads")))
 DECODE = os.path.abspath(os.environ.get("DECODE", os.path.join(ROOT, "target/bin/decode")))
 TABLES = os.path.join(ROOT, "examples/tables.g729")
-VERSION = b"holdamek 0.6.0\n"
+VERSION = b"holdamek 0.7.0\n"
 
 
 def a_line(r):

@@ -15,7 +15,7 @@ static int failed(const char *what)
     return 2;
 }
 
-static int refused(uint32_t code, uint32_t line)
+static inline int refused(uint32_t code, uint32_t line)
 {
     int printed = printf("(refused (code %u) (line %u))\n", (unsigned)code, (unsigned)line);
 
@@ -31,7 +31,7 @@ static int finished(int status)
 }
 
 /* Reads 1,880 words, low byte first; a file of another length is refused. */
-static uint32_t read_tables(const char *path, int16_t tables[HOLDAMEK_TABLE_WORDS])
+static inline uint32_t read_tables(const char *path, int16_t tables[HOLDAMEK_TABLE_WORDS])
 {
     uint8_t bytes[2 * HOLDAMEK_TABLE_WORDS + 1];
     FILE *file = fopen(path, "rb");
@@ -51,7 +51,7 @@ static uint32_t read_tables(const char *path, int16_t tables[HOLDAMEK_TABLE_WORD
 }
 
 /* Runs a program on the tables of a file and a fresh state, and returns the exit status. */
-static int on_tables(const char *path, int (*run)(const int16_t *tables, int16_t *state))
+static inline int on_tables(const char *path, int (*run)(const int16_t *tables, int16_t *state))
 {
     int16_t tables[HOLDAMEK_TABLE_WORDS], state[HOLDAMEK_STATE_WORDS];
     uint32_t code = read_tables(path, tables);
@@ -61,15 +61,15 @@ static int on_tables(const char *path, int (*run)(const int16_t *tables, int16_t
     return finished(code == HOLDAMEK_OK ? run(tables, state) : refused(code, 0));
 }
 
-/* Prints the form of a frame by one fwrite; a printf for each sample would take longer than decoding it. */
-static int print_samples(const int16_t samples[HOLDAMEK_FRAME_SAMPLES])
+/* Prints the form of the samples of a frame, or of fewer, by one fwrite; a printf for each sample would take longer than decoding it. */
+static int print_samples(const int16_t *samples, size_t count)
 {
     static const char digits[] = "0123456789abcdef";
     char form[5 + 4 * HOLDAMEK_FRAME_SAMPLES + 2] = "(pcm ";
     char *to = form + 5;
-    int i;
+    size_t length = 5 + 4 * count + 2, i;
 
-    for (i = 0; i < HOLDAMEK_FRAME_SAMPLES; i++) {
+    for (i = 0; i < count; i++) {
         unsigned word = (uint16_t)samples[i];
 
         *to++ = digits[word >> 12];
@@ -78,13 +78,13 @@ static int print_samples(const int16_t samples[HOLDAMEK_FRAME_SAMPLES])
         *to++ = digits[word & 15];
     }
     memcpy(to, ")\n", 2);
-    return fwrite(form, 1, sizeof form, stdout) == sizeof form;
+    return fwrite(form, 1, length, stdout) == length;
 }
 
 /* Prints the line of a frame and its samples. */
 static inline int print_frame(const uint8_t *line, size_t length, const int16_t samples[HOLDAMEK_FRAME_SAMPLES])
 {
-    return fwrite(line, 1, length, stdout) == length && putchar('\n') != EOF && print_samples(samples);
+    return fwrite(line, 1, length, stdout) == length && putchar('\n') != EOF && print_samples(samples, HOLDAMEK_FRAME_SAMPLES);
 }
 
 /* Runs a program whose one argument is the table file. */

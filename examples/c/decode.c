@@ -39,7 +39,7 @@ static int decode(const int16_t *tables, int16_t *state)
                               samples, HOLDAMEK_FRAME_SAMPLES);
         if (code != HOLDAMEK_OK)
             return refused(code, frames);
-        if (!print_samples(samples))
+        if (!print_samples(samples, HOLDAMEK_FRAME_SAMPLES))
             return failed("standard output");
     }
     if (ferror(stdin))

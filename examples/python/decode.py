@@ -31,10 +31,10 @@ def check(code, *_):
         raise Refused(code)
 
 
-def load():
+def load(functions):
     """The shared library that `make install` installs, each function with its types: without them ctypes would cut lengths to 32 bits."""
     library = ctypes.CDLL("libholdamek.so.0")
-    for name, types in FUNCTIONS.items():
+    for name, types in functions.items():
         function = getattr(library, name)
         function.argtypes, function.restype, function.errcheck = types, c_uint32, check
     return library
@@ -83,7 +83,7 @@ def main():
         print("usage: decode.py TABLES <call", file=sys.stderr)
         return 2
     try:
-        library = load()
+        library = load(FUNCTIONS)
         # Closed here, so that a full disk shows.
         with open(0, "rb") as call, open(1, "wb") as out:
             return decode(library, sys.argv[1], call, out)

@@ -10,6 +10,7 @@ from ctypes import POINTER, c_int16, c_size_t, c_uint8, c_uint32
 
 sys.dont_write_bytecode = True
 from decode import BYTES, FRAME_SAMPLES, LONGEST_LINE, STATE_WORDS, TABLE_WORDS, Refused, check, load, read_tables
+from decode import FUNCTIONS as DECODING
 
 # The payloads as they come off the wire, behind the headers of their packets.
 PAYLOADS = [
@@ -49,7 +50,7 @@ def check_code(answer, *_):
 
 def load_all():
     """The library of decode.py, with the functions above too."""
-    library = load()
+    library = load(DECODING)
     for name, (returned, *taken) in FUNCTIONS.items():
         function = getattr(library, name)
         function.argtypes, function.restype, function.errcheck = taken, returned, check_code

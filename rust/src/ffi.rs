@@ -71,6 +71,20 @@ mod c {
             payload_len: usize,
             index: usize,
         ) -> FramePart;
+        pub fn holdamek_g711_read(
+            law: u32,
+            bytes: *const u8,
+            bytes_len: usize,
+            samples: *mut i16,
+            samples_len: usize,
+        ) -> u32;
+        pub fn holdamek_g711_write(
+            law: u32,
+            samples: *const i16,
+            samples_len: usize,
+            bytes: *mut u8,
+            bytes_len: usize,
+        ) -> u32;
         pub fn holdamek_count(kind: u32, frames: *mut u32, lost: *mut u32) -> u32;
         pub fn holdamek_agree(
             a: *const i16,
@@ -183,6 +197,32 @@ pub fn payload_frames(payload: &[u8]) -> FrameCount {
 pub fn payload_frame(payload: &[u8], index: usize) -> FramePart {
     // SAFETY: see the head of this file.
     unsafe { c::holdamek_payload_frame(payload.as_ptr(), payload.len(), index) }
+}
+
+pub fn g711_read(law: u32, bytes: &[u8], samples: &mut [i16]) -> u32 {
+    // SAFETY: see the head of this file.
+    unsafe {
+        c::holdamek_g711_read(
+            law,
+            bytes.as_ptr(),
+            bytes.len(),
+            samples.as_mut_ptr(),
+            samples.len(),
+        )
+    }
+}
+
+pub fn g711_write(law: u32, samples: &[i16], bytes: &mut [u8]) -> u32 {
+    // SAFETY: see the head of this file.
+    unsafe {
+        c::holdamek_g711_write(
+            law,
+            samples.as_ptr(),
+            samples.len(),
+            bytes.as_mut_ptr(),
+            bytes.len(),
+        )
+    }
 }
 
 pub fn count(kind: u32, frames: &mut u32, lost: &mut u32) -> u32 {

@@ -18,7 +18,7 @@ pub enum Refusal {
     Kind,
     /// 6: the payload's length isn't that of its kind, or there are not ten bytes to read fields from or to write them to.
     PayloadLength,
-    /// 7: the output isn't 80 words, or the room for a line isn't 36 bytes.
+    /// 7: the output isn't 80 words, or the room for a line isn't 36 bytes, or a G.711 leg has not as many bytes as samples.
     OutputLength,
     /// 8: the receiver of the fields isn't 15 numbers, or the fields to be written aren't 15, or 14 without P0.
     ReceiverLength,
@@ -34,12 +34,16 @@ pub enum Refusal {
     FrameIndex,
     /// 15: a field exceeds its width.
     FieldWidth,
+    /// 16: there is no such law of G.711. A [`Law`](crate::Law) is never refused with it.
+    Law,
+    /// 17: a sample isn't a table value of the law: no byte is read as it.
+    TableValue,
     /// A number that this version of the crate doesn't know.
     Other(u32),
 }
 
-/// The refusals with their numbers, 1 to 13 and 15, and their texts.
-const NUMBERED: [(u32, Refusal, &str); 14] = [
+/// The refusals with their numbers, 1 to 13 and 15 to 17, and their texts.
+const NUMBERED: [(u32, Refusal, &str); 16] = [
     (1, Refusal::TableLength, "the table block isn't 1,880 words"),
     (
         2,
@@ -58,7 +62,11 @@ const NUMBERED: [(u32, Refusal, &str); 14] = [
         Refusal::PayloadLength,
         "the payload has another length than its kind, or the bytes of the fields aren't ten",
     ),
-    (7, Refusal::OutputLength, "the output isn't 80 words"),
+    (
+        7,
+        Refusal::OutputLength,
+        "the output isn't 80 words, or a G.711 leg has not as many bytes as samples",
+    ),
     (
         8,
         Refusal::ReceiverLength,
@@ -82,6 +90,12 @@ const NUMBERED: [(u32, Refusal, &str); 14] = [
         "the index isn't below the number of frames of the RTP payload",
     ),
     (15, Refusal::FieldWidth, "a field exceeds its width"),
+    (16, Refusal::Law, "there is no such law of G.711"),
+    (
+        17,
+        Refusal::TableValue,
+        "a sample isn't a table value of the law",
+    ),
 ];
 
 impl Refusal {
@@ -124,7 +138,7 @@ fn every_number_comes_back() {
     for code in (1..20).chain([u32::MAX]) {
         let refusal = Refusal::check(code).unwrap_err();
         assert_eq!(refusal.code(), code);
-        let known = code <= 13 || code == 15;
+        let known = code <= 17 && code != 14;
         assert_eq!(matches!(refusal, Refusal::Other(_)), !known);
     }
 }

@@ -1,8 +1,8 @@
-//! The wrapper over the example files: samples, saving and resuming, the writing of frames, the frames of RTP payloads, the agreement of two decoders, the comparison with a far one, every refusal that its types leave.
+//! The wrapper over the example files: samples, saving and resuming, the writing of frames, the frames of RTP payloads, G.711 legs, the agreement of two decoders, the comparison with a far one, every refusal that its types leave.
 
 use holdamek::{
     fields, payload_frame, payload_frames, write_fields, write_fields_parity, Agreement, Compared,
-    Comparison, Counts, Decoder, Frame, PayloadFrame, PayloadFrames, Refusal, SpeechParams,
+    Comparison, Counts, Decoder, Frame, Law, PayloadFrame, PayloadFrames, Refusal, SpeechParams,
     StateBlock, TableBlock,
 };
 use holdamek::{COMPARE_WORDS, LONGEST_LINE, MOST_FRAMES, STATE_WORDS, TABLE_WORDS};
@@ -506,6 +506,102 @@ fn frames_of_payloads_are_decoded() {
     assert_eq!(by_payloads.state(), whole.state());
 }
 
+const LAWS: [Law; 2] = [Law::A, Law::Mu];
+
+/// The sample that a byte is read as: sign, exponent and mantissa of the byte with its bits flipped, as G.711 has them.
+fn value(law: Law, byte: u8) -> i16 {
+    let flipped = match law {
+        Law::A => byte ^ 0x55,
+        Law::Mu => !byte,
+    };
+    let (s, e, m) = (flipped >> 7, flipped >> 4 & 7, i16::from(flipped & 15));
+    match (law, e) {
+        (Law::A, 0) => (16 * m + 8) * if s == 1 { 1 } else { -1 },
+        (Law::A, _) => ((16 * m + 264) << (e - 1)) * if s == 1 { 1 } else { -1 },
+        (Law::Mu, _) => (((8 * m + 132) << e) - 132) * if s == 1 { -1 } else { 1 },
+    }
+}
+
+fn values(law: Law) -> Vec<i16> {
+    (0..=255).map(|byte| value(law, byte)).collect()
+}
+
+#[test]
+fn every_byte_of_a_leg_comes_back() {
+    let every: Vec<u8> = (0..=255).collect();
+    for (law, number) in LAWS.into_iter().zip(1..) {
+        assert_eq!(law.number(), number);
+        let (mut samples, mut bytes) = ([0; 256], [0; 256]);
+        assert_eq!(law.read(&every, &mut samples), Ok(()));
+        assert_eq!(samples.as_slice(), values(law));
+        assert_eq!(law.write(&samples, &mut bytes), Ok(()));
+        let mut due = every.clone();
+        if law == Law::Mu {
+            // Both 7F and FF are read as 0.
+            due[0x7f] = 0xff;
+        }
+        assert_eq!(bytes.as_slice(), due);
+        // One by one.
+        for (place, byte) in every.iter().enumerate() {
+            let (mut sample, mut back) = ([7; 1], [7; 1]);
+            assert_eq!(law.read(&[*byte], &mut sample), Ok(()));
+            assert_eq!(law.write(&sample, &mut back), Ok(()));
+            assert_eq!((sample, back), ([samples[place]], [due[place]]));
+        }
+    }
+}
+
+#[test]
+fn every_other_sample_is_refused() {
+    for law in LAWS {
+        let values = values(law);
+        let mut taken = 0;
+        for sample in i16::MIN..=i16::MAX {
+            let mut byte = [0x7e];
+            let answer = law.write(&[sample], &mut byte);
+            if values.contains(&sample) {
+                assert_eq!(answer, Ok(()));
+                assert_eq!(value(law, byte[0]), sample);
+                taken += 1;
+            } else {
+                assert_eq!((answer, byte), (Err(Refusal::TableValue), [0x7e]));
+            }
+        }
+        assert_eq!(taken, if law == Law::A { 256 } else { 255 });
+        // Wherever it stands among samples that are values, nothing is written.
+        for place in 0..values.len() {
+            let (mut samples, mut bytes) = (values.clone(), [0x7e; 256]);
+            samples[place] ^= 1;
+            let answer = law.write(&samples, &mut bytes);
+            assert_eq!((answer, bytes), (Err(Refusal::TableValue), [0x7e; 256]));
+        }
+    }
+}
+
+#[test]
+fn a_leg_has_as_many_bytes_as_samples() {
+    let refused = Err(Refusal::OutputLength);
+    for law in LAWS {
+        for (bytes, samples) in (0..20).flat_map(|b| (0..20).map(move |s| (b, s))) {
+            // No sample is a value: their number comes first.
+            let (mut lent, mut words) = (vec![0x7e; bytes], vec![1; samples]);
+            let due = match (bytes == samples, samples) {
+                (false, _) => refused,
+                (true, 0) => Ok(()),
+                (true, _) => Err(Refusal::TableValue),
+            };
+            assert_eq!(law.write(&words, &mut lent), due);
+            assert_eq!(lent, vec![0x7e; bytes]);
+            let due = if bytes == samples { Ok(()) } else { refused };
+            assert_eq!(law.read(&lent, &mut words), due);
+            let read = if due.is_ok() { value(law, 0x7e) } else { 1 };
+            assert_eq!(words, vec![read; samples]);
+        }
+        assert_eq!(law.read(&[], &mut []), Ok(()));
+        assert_eq!(law.write(&[], &mut []), Ok(()));
+    }
+}
+
 #[test]
 fn a_call_has_a_limit() {
     let mut counts = Counts {
@@ -528,6 +624,8 @@ fn refusals_have_their_numbers() {
     assert_eq!(Refusal::PayloadRemainder.code(), 12);
     assert_eq!(Refusal::FrameIndex.code(), 13);
     assert_eq!(Refusal::FieldWidth.code(), 15);
+    assert_eq!(Refusal::Law.code(), 16);
+    assert_eq!(Refusal::TableValue.code(), 17);
     assert_eq!(
         Refusal::LineForm.to_string(),
         "refusal 9: the line isn't one of the four forms"

@@ -1,5 +1,7 @@
 //! What the example programs in Rust share: tables from a file, printed forms and exit statuses.
 
+#![allow(dead_code)] // no program uses all of it
+
 use holdamek::{Decoder, Refusal, Samples, TableBlock, FRAME_SAMPLES};
 use std::io::{self, Write};
 use std::process::ExitCode;
@@ -31,8 +33,8 @@ fn read(path: &str) -> Vec<u8> {
     })
 }
 
-/// Four digits for each sample; a `write!` for each would take longer than decoding it.
-pub fn print(samples: &Samples, out: &mut impl Write) -> io::Result<()> {
+/// Four digits for each sample of a frame, or of fewer; a `write!` for each would take longer than decoding it.
+pub fn print(samples: &[i16], out: &mut impl Write) -> io::Result<()> {
     let mut digits = [0; 4 * FRAME_SAMPLES];
     for (four, sample) in digits.chunks_exact_mut(4).zip(samples) {
         let [high, low] = sample.to_be_bytes().map(usize::from);
@@ -40,12 +42,11 @@ pub fn print(samples: &Samples, out: &mut impl Write) -> io::Result<()> {
         four.copy_from_slice(&nibbles.map(|nibble| b"0123456789abcdef"[nibble]));
     }
     out.write_all(b"(pcm ")?;
-    out.write_all(&digits)?;
+    out.write_all(&digits[..4 * samples.len()])?;
     out.write_all(b")\n")
 }
 
 /// The line of a frame and its samples.
-#[allow(dead_code)] // one program prints samples alone
 pub fn print_frame(line: &[u8], samples: &Samples, out: &mut impl Write) -> io::Result<()> {
     out.write_all(line)?;
     out.write_all(b"\n")?;
@@ -59,7 +60,7 @@ pub fn refused(refusal: Refusal, line: u32, out: &mut impl Write) -> io::Result<
 }
 
 /// The exit status. What is still in the buffer is written here: a full disk may show only now.
-fn finished(program: &str, answer: io::Result<ExitCode>, out: &mut impl Write) -> ExitCode {
+pub fn finished(program: &str, answer: io::Result<ExitCode>, out: &mut impl Write) -> ExitCode {
     let written = answer.and_then(|code| out.flush().map(|()| code));
     written.unwrap_or_else(|error| {
         eprintln!("{program}: {error}");
