@@ -5,8 +5,9 @@ use mathlib.Core.List.{List, [], _∷_, map}
 use Prim.Native.Nat.{ℕ, zero, suc, _+_, _-_, _*_, _/_, _%_, _^_}
 use lib.Bits.{bitXor}
 use lib.Dec.{eqb, ltb}
-use lib.IntN.{ℤ, pos, negsuc, negℤ}
+use lib.IntN.{ℤ, pos, negℤ}
 use lib.ListN.{length}
+use Rattle.laws.specs.Ints.{sameZ}
 
 -- ---- a byte's sample
 
@@ -43,12 +44,6 @@ unfoldable pub value : ℕ → ℕ → ℤ
 value law b = cond (eqb law 1) (a b) (mu b)
 
 -- ---- a sample's byte
-
-unfoldable pub sameZ : ℤ → ℤ → Bool
-sameZ (pos m) (pos n) = eqb m n
-sameZ (pos m) (negsuc n) = false
-sameZ (negsuc m) (pos n) = false
-sameZ (negsuc m) (negsuc n) = eqb m n
 
 -- the greatest number below n at which f is z; 256 where there is none
 unfoldable pub last : (ℕ → ℤ) → ℤ → ℕ → ℕ

@@ -1,10 +1,9 @@
 -- Laws of G.711: the tables by one computed test over all entries, what the code reads off the bits of a sample's size, and the loops. Assumes nothing.
-use mathlib.Core.Path.{_≡_, refl, sym, ap, _∙_, subst}
+use mathlib.Core.Path.{_≡_, refl, sym, ap, _∙_}
 use mathlib.Core.Bool.{Bool, true, false, cond, not, _&&_, _||_}
-use mathlib.Core.List.{List, [], _∷_, _++_, map, append-nil}
+use mathlib.Core.List.{List, [], _∷_, map}
 use Prim.Native.Nat.{ℕ, zero, suc, _+_, _-_, _*_, _/_, _%_, _^_, _≤_, _<_, min}
 use native.Mathlib.Omega.{arith}
-use native.Mathlib.Numerals.{add-one}
 use native.Mathlib.Nat.{add-zero, pow-suc, lt-of-mul-lt-mul-right}
 use lib.Bits.{bitAnd, bitOr, bitXor, and-step, and-self, or-add-and, and-le-l, and-le-r, xor-lt}
 use lib.Dec.{T, eqb, ltb, leb, lit<, eqb→eq, ltb→lt, le→leb, leb→le}
@@ -13,38 +12,16 @@ use lib.Ieee.Back.{unsigned-back}
 use lib.Ieee.Bits.{toBits-lt}
 use lib.Ieee.Fits.{ofInt-fits}
 use lib.IntN.{ℤ, pos, negsuc, negℤ, natAbs}
-use lib.ListN.{length, getD, set, take, drop, length-map, List·getD-map, drop-of-length-le}
-use lib.Seq.{paste, paste-zero, paste-suc, take-all}
+use lib.ListN.{length, getD}
 use lib.Signed.{mag, ltZ}
 use borrow.Author.Tests.{eq-eqb, ne-eqb, eqb-true, eqb-false, lt-ltb, le-ltb, ltb-true, ltb-false}
 use mir.Facts.{and-yes}
+use Rattle.laws.specs.Ints.{sameZ, sameZ-yes, sameZ-true, sameZ-false}
 use Rattle.laws.specs.Lists.{at}
 use Rattle.laws.specs.Loops.{every, every-at, steps}
 use Rattle.g711.specs.declared.Form.{Form}
-use Rattle.g711.specs.G711.{sign, segment, step, mu, a, known, value, sameZ, last, byte-of, back, all-values, Read, Written, read, written, refusal, read-call, write-call}
+use Rattle.g711.specs.G711.{sign, segment, step, mu, a, known, value, last, byte-of, back, all-values, Read, Written, read, written, refusal, read-call, write-call}
 use Rattle.g711.specs.Fast.{form, lifted, sized, lowest, five-above, fault, faults, leading, sign-bit, segment-less, guess}
-
--- ---- numbers of ℤ that a test finds equal
-
-pub sameZ-yes : (x y : ℤ) → T (sameZ x y) → x ≡ y
-unfolding sameZ
-sameZ-yes (pos m) (pos n) t = ap pos (eqb→eq m n t)
-sameZ-yes (pos m) (negsuc n) t = absurd t
-sameZ-yes (negsuc m) (pos n) t = absurd t
-sameZ-yes (negsuc m) (negsuc n) t = ap negsuc (eqb→eq m n t)
-
-same-self : (z : ℤ) → sameZ z z ≡ true
-unfolding sameZ
-same-self (pos n) = eq-eqb n n refl
-same-self (negsuc n) = eq-eqb n n refl
-
-same-true : (x y : ℤ) → sameZ x y ≡ true → x ≡ y
-same-true x y e = sameZ-yes x y (rw e tt)
-
-same-false : (x y : ℤ) → sameZ x y ≡ false → x ≡ y → ⊥
-same-false x y e g =
-    let z : _≡_ {A = Bool} true false = sym (same-self y) ∙ sym (ap (λ (w : ℤ). sameZ w y) g) ∙ e in
-    let n : _≡_ {A = ℕ} 0 1 = cc in omega arith
 
 -- ---- the tables
 
@@ -78,7 +55,7 @@ module _ (f : ℕ → ℤ) (z : ℤ) where
   last-none (suc n) h = by (sameZ (f n) z) refl (last-none n (λ k l. h k (omega arith)))
     where
       by : (t : Bool) → sameZ (f n) z ≡ t → last f z n ≡ 256 → cond t n (last f z n) ≡ 256
-      by true e g = absurd (h n (omega arith) (same-true (f n) z e))
+      by true e g = absurd (h n (omega arith) (sameZ-true (f n) z e))
       by false e g = g
 
   pub last-at : (n k : ℕ) → k < n → f k ≡ z → ((j : ℕ) → j < n → f j ≡ z → j ≤ k) → last f z n ≡ k
@@ -87,7 +64,7 @@ module _ (f : ℕ → ℤ) (z : ℤ) where
   last-at (suc n) k l e h = by (sameZ (f n) z) refl (λ g. last-at n k g e (λ j m. h j (omega arith)))
     where
       by : (t : Bool) → sameZ (f n) z ≡ t → (k < n → last f z n ≡ k) → cond t n (last f z n) ≡ k
-      by true q g = omega (arith, h n (omega arith) (same-true (f n) z q))
+      by true q g = omega (arith, h n (omega arith) (sameZ-true (f n) z q))
       by false q g = g (go (ltb k n) refl)
         where
           go : (t : Bool) → ltb k n ≡ t → k < n
@@ -95,7 +72,7 @@ module _ (f : ℕ → ℤ) (z : ℤ) where
           go false m =
               let i : n ≤ k = ltb-false k n m in
               let same : k ≡ n = omega arith in
-              absurd (same-false (f n) z q (rw same at e))
+              absurd (sameZ-false (f n) z q (rw same at e))
 
   -- where there is one, the value is there
   pub last-is : (n : ℕ) → last f z n < 256 → f (last f z n) ≡ z
@@ -104,7 +81,7 @@ module _ (f : ℕ → ℤ) (z : ℤ) where
   last-is (suc n) h = by (sameZ (f n) z) refl h (last-is n)
     where
       by : (t : Bool) → sameZ (f n) z ≡ t → cond t n (last f z n) < 256 → (last f z n < 256 → f (last f z n) ≡ z) → f (cond t n (last f z n)) ≡ z
-      by true e g r = same-true (f n) z e
+      by true e g r = sameZ-true (f n) z e
       by false e g r = r g
 
 -- ---- tests
@@ -579,26 +556,6 @@ module _ {y z : ℤ} (e : y ≡ z) where
 pub abs-of : (z : ℤ) → mag z < 2 ^ 15 → natAbs z ≤ 32768
 abs-of (pos n) h = omega arith
 abs-of (negsuc n) h = omega arith
-
--- ---- a loop that fills a list with f of another's elements
-
-module _ {A B : Type 0} (f : A → B) (l : List A) (d : List B) where
-  pub map-none : d ≡ paste d 0 (map f l) 0
-  map-none = paste-zero d 0 (map f l)
-
-  -- one turn
-  pub map-turn : (out : List B) (i : ℕ) (z : A) (v : B) → i < length d → i < length l → out ≡ paste d 0 (map f l) i → v ≡ f (getD l i z)
-      → set out i v ≡ paste d 0 (map f l) (i + 1)
-  map-turn out i z v h k e g =
-      let j : 0 + i ≡ i = omega arith in
-      let w : v ≡ getD (map f l) i (f z) = g ∙ sym (List·getD-map f l i z) in
-      let s = paste-suc d 0 (map f l) i (f z) (omega arith) (rw (length-map l f) k) in
-      rw (e, w, add-one) (subst (λ (m : ℕ). set (paste d 0 (map f l) i) m (getD (map f l) i (f z)) ≡ paste d 0 (map f l) (suc i)) j s)
-
-  -- after the last
-  pub map-end : (out : List B) (i : ℕ) → out ≡ paste d 0 (map f l) i → i ≡ length d → length l ≡ length d → out ≡ map f l
-  map-end out i e g n =
-      e ∙ rw (take-all i (map f l) (omega (arith, length-map l f)), drop-of-length-le d {i = 0 + i} (omega arith), append-nil)
 
 -- ---- a number of 16 bits as a float
 

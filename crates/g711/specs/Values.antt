@@ -1,7 +1,8 @@
 -- Values that change request 8 names. Assumes nothing.
 use mathlib.Core.Path.{_≡_, refl}
 use lib.IntN.{pos, negsuc}
-use Rattle.g711.specs.G711.{mu, a, value, sameZ, last, byte-of}
+use Rattle.laws.specs.Ints.{sameZ}
+use Rattle.g711.specs.G711.{mu, a, value, last, byte-of}
 
 -- mu-law 00 and 80: -32124 and 32124
 pub mu-00 : value 2 0x00 ≡ negsuc 32123

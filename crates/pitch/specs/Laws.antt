@@ -11,6 +11,7 @@ use borrow.Author.Tests.{lt-ltb, le-ltb, ltb-true, ltb-false}
 use mir.Syntax.{w16}
 use mir.Val.{SFits}
 use mir.Facts.{and-yes, yes-and, leb-yes, yes-leb, eqb-yes, sfits-lit}
+use Rattle.laws.specs.Ints.{sameZ, sameZ-yes}
 use Rattle.laws.specs.Loops.{steps, every, every-at}
 use Rattle.basic_op.specs.Ops.{lesser}
 use Rattle.pitch.specs.declared.Delay.{Delay}
@@ -27,19 +28,6 @@ third-by-shift n h = omega arith
 -- the delay n + (rest - 1) / 3
 abbrev pub in-thirds : ℕ → ℕ → Delay
 in-thirds n rest = record { integer = pos n; fraction = pos rest -ℤ pos 1 }
-
-unfoldable pub sameZ : ℤ → ℤ → Bool
-sameZ (pos a) (pos b) = eqb a b
-sameZ (pos a) (negsuc b) = false
-sameZ (negsuc a) (pos b) = false
-sameZ (negsuc a) (negsuc b) = eqb a b
-
-pub sameZ-yes : (a b : ℤ) → T (sameZ a b) → a ≡ b
-unfolding sameZ
-sameZ-yes (pos a) (pos b) t = ap pos (eqb-yes t)
-sameZ-yes (pos a) (negsuc b) t = absurd t
-sameZ-yes (negsuc a) (pos b) t = absurd t
-sameZ-yes (negsuc a) (negsuc b) t = ap negsuc (eqb-yes t)
 
 pub t1-fraction : (p : ℕ) → p < 197 → pos p -ℤ pos (3 * ((p + 2) / 3 + 19)) +ℤ pos 58 ≡ pos (p + 2 - 3 * ((p + 2) / 3)) -ℤ pos 1
 unfolding every sameZ

@@ -9,8 +9,8 @@ use lib.Seq.{paste}
 use mir.Syntax.{w16}
 use borrow.Author.Needs.{needs}
 use Rattle.laws.specs.Back.{via}
+use Rattle.laws.specs.Lists.{map-none, map-turn, map-end}
 use Rattle.g711.specs.Fast.{guess}
-use Rattle.g711.specs.Laws.{map-none, map-turn, map-end}
 use Rattle.g711.proofs.compress.Statement.{statement}
 use Rattle.g711.proofs.compress.Tie as tie
 

@@ -8,8 +8,8 @@ use lib.Seq.{paste}
 use mir.Syntax.{w16}
 use borrow.Author.Needs.{needs}
 use Rattle.laws.specs.Back.{via}
-use Rattle.laws.specs.Lists.{at}
-use Rattle.g711.specs.Laws.{met, map-none, map-turn, map-end}
+use Rattle.laws.specs.Lists.{at, map-none, map-turn, map-end}
+use Rattle.g711.specs.Laws.{met}
 use Rattle.g711.proofs.expand.Statement.{statement}
 use Rattle.g711.proofs.expand.Tie as tie
 

@@ -1,7 +1,8 @@
 -- `g711::expand_mu` meets its contract: each entry of the array is the rule's, by one computed test and the lemma that both tables share.
 use borrow.Author.Needs.{needs}
+use Rattle.laws.specs.Ints.{sameZ}
 use Rattle.laws.specs.Loops.{every}
-use Rattle.g711.specs.G711.{mu, sameZ}
+use Rattle.g711.specs.G711.{mu}
 use Rattle.g711.specs.Laws.{meets, entry}
 use Rattle.g711.proofs.expand_mu.Statement.{statement}
 use Rattle.g711.proofs.expand_mu.Tie as tie
