@@ -5,6 +5,7 @@ ROOT = os.path.dirname(os.path.dirname(os.path.abspath(__file__)))
 RESUME = os.path.abspath(os.environ.get("RESUME", os.path.join(ROOT, "target/bin/resume")))
 COMPARE = os.path.abspath(os.environ.get("COMPARE", os.path.join(ROOT, "target/bin/compare")))
 PAYLOADS = os.path.abspath(os.environ.get("PAYLOADS", os.path.join(ROOT, "target/bin/payloads")))
+G711_LEG = os.path.abspath(os.environ.get("G711_LEG", os.path.join(ROOT, "target/bin/g711_leg")))
 DECODE = os.path.abspath(os.environ.get("DECODE", os.path.join(ROOT, "target/bin/decode")))
 TABLES = os.path.join(ROOT, "examples/tables.g729")
 VERSION = b"holdamek 0.7.0\n"

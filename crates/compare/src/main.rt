@@ -2,7 +2,8 @@
 // line a frame, the stretches, and what was counted. No contract can say what is read or written; the work is done on lent memory, by crates far and compare_turn.
 ghost use Prim.Native.Nat.{_-_, _≤_, _<_};
 ghost use lib.ListN.{length};
-ghost use Rattle.compare.specs.Held.{Inside, Held};
+ghost use Rattle.source.specs.Source.{Inside};
+ghost use Rattle.compare.specs.Held.{Held};
 use compare_step::COMPARE_LENGTH;
 use compare_turn::CALL_ENDS;
 use compare_turn::FAR_ENDS;
@@ -12,34 +13,22 @@ use compare_turn::REFUSE;
 use compare_turn::Standing;
 use compare_turn::Taken;
 use compare_turn::WAIT;
-use far::wav::Header;
 use options::Asked;
 use print::FORM_ROOM;
 use report::forms::ROOM;
+use source::Source;
 
 const USAGE: [u8; 50] = *b"usage: compare [--tables FILE] CALL FAR [SAMPLES]\n";
 
-// The bytes of the buffers: of the call, of the far samples, in which a WAV file's header must be, and of what is printed.
+// The bytes of the buffers: of the call, of the far samples, and of what is printed.
 const CALL: usize = 16384;
 
-const FAR: usize = 65536;
+const FAR: usize = source::ROOM;
 
 const OUT: usize = 65536;
 
 // As many turns as there can be.
 const MOST: u32 = 4294967295;
-
-// More bytes than a file has.
-const ALL: u64 = 18446744073709551615;
-
-// A file that is read: the place of the first byte in its buffer that is not used and the one behind the last, whether it has ended, whether it could be read, and how many bytes of it may still be.
-struct Source {
-    from: usize,
-    to: usize,
-    ended: bool,
-    good: bool,
-    left: u64,
-}
 
 // Where the program is: what was counted, both files, which of them lack bytes, what follows, and whether all was written.
 struct Place {
@@ -64,87 +53,13 @@ struct Files {
     form: u32,
 }
 
-// A file before its first read.
-fn unread() -> Source
-    ensures { λ r. ⌜ Inside r 0 ⌝ }
-{
-    Source {
-        from: 0,
-        to: 0,
-        ended: false,
-        good: true,
-        left: ALL,
-    }
-}
-
-// Whether a read was good; where it failed, a message on standard error.
-fn good_read(answer: isize, name: &[u8]) -> bool {
-    if answer < 0 {
-        os::fail(name);
-        return false;
-    }
-    true
-}
-
-// The end of what may be read behind the bytes held.
-fn limit(held: usize, room: usize, left: u64) -> usize
-    requires { ⌜ held ≤ room ⌝ }
-    ensures { λ r. ⌜ (held ≤ r) × (r ≤ room) ⌝ }
-{
-    let free = room - held;
-    if (free as u64) < left {
-        return room;
-    }
-    held + left as usize
-}
-
-// What may be read behind so many bytes more.
-fn less(left: u64, bytes: usize) -> u64 {
-    if (bytes as u64) < left {
-        return left - bytes as u64;
-    }
-    0
-}
-
-// One read: the bytes that are not used move to the front, and others come behind them.
-fn fill(fd: i32, name: &[u8], s: Source, input: &mut [u8]) -> Source
-    ensures { λ r. ⌜ Inside r (length (now (input .entry))) ⌝ }
-{
-    let held = call::keep(input, s.from, s.to);
-    let end = limit(held, input.len(), s.left);
-    let answer = libc::read(fd, &mut input[held..end]);
-    let good = good_read(answer, name);
-    let bytes = io::count(answer, &input[held..end]);
-    Source {
-        from: 0,
-        to: held + bytes,
-        ended: bytes == 0,
-        good,
-        left: less(s.left, bytes),
-    }
-}
-
-// The same file, with more bytes used.
-fn used(s: Source, bytes: usize) -> Source
-    requires { ⌜ (s .from ≤ s .to) × (bytes ≤ s .to - s .from) ⌝ }
-    ensures { λ r. ⌜ Inside r (s .to) ⌝ }
-{
-    Source {
-        from: s.from + bytes,
-        to: s.to,
-        ended: s.ended,
-        good: s.good,
-        left: s.left,
-    }
-}
-
 // A read, where a file lacks bytes.
 fn filled(lacks: bool, fd: i32, name: &[u8], s: Source, input: &mut [u8]) -> Source
     requires { ⌜ Inside s (length (now input)) ⌝ }
     ensures { λ r. ⌜ Inside r (length (now (input .entry))) ⌝ }
 {
     if lacks {
-        return fill(fd, name, s, input);
+        return source::fill(fd, name, s, input);
     }
     s
 }
@@ -286,9 +201,9 @@ fn turn(
     let good = written(f.samples, taken, out, pcm);
     let at = taken.at;
     let c = p.call;
-    let c = used(c, taken.line);
+    let c = source::used(c, taken.line);
     let d = p.far;
-    let d = used(d, taken.frame);
+    let d = source::used(d, taken.frame);
     decided(f.form, at, c, d, p.good & good, call, far)
 }
 
@@ -399,7 +314,7 @@ fn before(start: Source) -> Place
     ensures { λ r. ⌜ Held r ⌝ }
 {
     let at = compare_turn::start();
-    let call = unread();
+    let call = source::unread();
     Place {
         at,
         call,
@@ -410,63 +325,6 @@ fn before(start: Source) -> Place
         },
         next: READ,
         good: true,
-    }
-}
-
-// Why the samples of a WAV file can't be taken, in words.
-fn why(name: &[u8], code: u32) {
-    if code == far::wav::NO_WAVE {
-        files::say(name, b"begins with RIFF, but is no WAV file");
-    } else if code == far::wav::NO_DATA {
-        files::say(
-            name,
-            b"no chunk `data` in the first 65,536 bytes of this WAV file",
-        );
-    } else if code == far::wav::NO_FORMAT {
-        files::say(name, b"no chunk `fmt ` before the samples of this WAV file");
-    } else if code == far::wav::NOT_PCM {
-        files::say(
-            name,
-            b"a WAV file whose samples are not linear PCM (format 1)",
-        );
-    } else if code == far::wav::NOT_MONO {
-        files::say(
-            name,
-            b"a WAV file of more than one channel: give one channel alone",
-        );
-    } else if code == far::wav::NOT_8000 {
-        files::say(name, b"a WAV file whose rate is not 8,000 samples a second");
-    } else {
-        files::say(name, b"a WAV file whose samples have not 16 bits");
-    }
-}
-
-// What is at hand of a WAV file behind its header. One whose length was not known when it was begun says 0, and goes to its end.
-fn samples(h: Header, n: usize) -> Source
-    requires { ⌜ h .from ≤ n ⌝ }
-    ensures { λ r. ⌜ Inside r n ⌝ }
-{
-    let from = h.from;
-    let held = n - from;
-    let mut bytes = h.bytes;
-    if bytes == 0 {
-        bytes = ALL;
-    }
-    if bytes < held as u64 {
-        return Source {
-            from,
-            to: from + bytes as usize,
-            ended: false,
-            good: true,
-            left: 0,
-        };
-    }
-    Source {
-        from,
-        to: n,
-        ended: false,
-        good: true,
-        left: bytes - held as u64,
     }
 }
 
@@ -494,32 +352,18 @@ fn first(name: &[u8], far: &[u8], n: usize) -> Begun
     if form != far::WAV {
         return Begun {
             form,
-            source: Source {
-                from: 0,
-                to: n,
-                ended: false,
-                good: true,
-                left: ALL,
-            },
+            source: source::raw(n),
         };
     }
-    let header = far::wav::look(bytes);
-    if header.code == 0 {
-        return Begun {
-            form,
-            source: samples(header, n),
-        };
-    }
-    why(name, header.code);
     Begun {
         form,
-        source: Source {
-            from: 0,
-            to: 0,
-            ended: true,
-            good: false,
-            left: 0,
-        },
+        source: source::wave(
+            name,
+            bytes,
+            wav::PCM,
+            16,
+            b"linear PCM of 16 bits (format 1)",
+        ),
     }
 }
 

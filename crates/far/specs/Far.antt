@@ -3,27 +3,18 @@ use mathlib.Core.Bool.{Bool, cond}
 use mathlib.Core.List.{List}
 use Prim.Native.Nat.{ℕ, _+_, _*_}
 use lib.Dec.{eqb, ltb}
-use lib.IntN.{ℤ, pos}
-use lib.ListN.{length, take, getD}
+use lib.IntN.{ℤ}
+use lib.ListN.{length, take}
 use Rattle.laws.specs.Bytes.{same}
-use Rattle.laws.specs.Digits.{value}
 use Rattle.laws.specs.Lists.{tab}
-use Rattle.basic_op.specs.Ops.{extract-l}
-use Rattle.text.specs.Text.{ascii}
+use Rattle.text.specs.Text.{ascii, starts}
 use Rattle.print.specs.Print.{pcm}
+use Rattle.pcm_line.specs.PcmLine.{sample}
 use Rattle.words.specs.Words.{words}
-
--- whether a text begins with s
-unfoldable pub starts : List ℕ → List ℕ → Bool
-starts s l = same (take (length s) l) s
 
 -- the form of a file, by its first bytes: 2 a WAV file, 1 printed, 0 words
 unfoldable pub form : List ℕ → ℕ
 form l = cond (starts (ascii "RIFF") l) 2 (cond (starts (ascii "(pcm ") l) 1 0)
-
--- the sample of the four digits at a place, in two's complement; a byte that is no digit counts 0
-unfoldable pub sample : List ℕ → ℕ → ℤ
-sample l k = extract-l (pos (4096 * value (getD l k 0) + 256 * value (getD l (k + 1) 0) + 16 * value (getD l (k + 2) 0) + value (getD l (k + 3) 0)))
 
 -- the 80 samples of the digits behind `(pcm `
 unfoldable pub printed : List ℕ → List ℤ

@@ -2,20 +2,18 @@
 use mathlib.Core.Path.{_≡_, refl, sym, _∙_}
 use mathlib.Core.Bool.{Bool, true, false, cond}
 use mathlib.Core.List.{List, append-nil}
-use Prim.Native.Nat.{ℕ, _-_, _≤_, _<_}
+use Prim.Native.Nat.{ℕ, _≤_, _<_}
 use native.Mathlib.Omega.{arith}
 use lib.Dec.{eqb, ltb}
 use lib.IntN.{ℤ}
-use lib.ListN.{length, take, drop, length-take, length-drop, drop-of-length-le}
-use lib.Seq.{take-all}
+use lib.ListN.{length, take, length-take, drop-of-length-le}
 use borrow.Author.Tests.{ltb-true, ltb-false, lt-ltb, le-ltb, ne-eqb}
 use Rattle.laws.specs.Bytes.{same, unlike}
 use Rattle.print.specs.Print.{pcm, over}
 use Rattle.print.specs.Laws.{length-pcm}
 use Rattle.words.specs.Words.{from-bytes}
 use Rattle.words.specs.Laws.{from-whole}
-use Rattle.far.specs.Far.{starts, printed, is-printed, taken, samples}
-use Rattle.far.specs.Wav.{named}
+use Rattle.far.specs.Far.{printed, is-printed, taken, samples}
 
 -- a printed frame written over as many bytes is all of them
 pub over-whole : (l : List ℤ) (lent out : List ℕ) → length lent ≡ 327 → out ≡ over (pcm l) lent → out ≡ pcm l
@@ -62,18 +60,3 @@ taken-le f l = by (eqb f 1) (ltb (length l) 327) (is-printed l) (ltb (length l) 
     by true false true s e g h = ltb-false _ _ e
     by false q r true e g h = omega arith
     by false q r false e g h = ltb-false _ _ g
-
--- ---- a WAV file
-
--- a chunk that has a name has a whole head
-pub named-room : (name l : List ℕ) (at : ℕ) → named name l at ≡ true → 8 ≤ length l - at
-unfolding named
-named-room name l at e = by (ltb (length l - at) 8) refl e
-  where
-    by : (p : Bool) → ltb (length l - at) 8 ≡ p → cond p false (starts name (drop at l)) ≡ true → 8 ≤ length l - at
-    by true f g = let z : _≡_ {A = Bool} false true = g in let y : _≡_ {A = ℕ} 0 1 = cc in absurd (omega arith)
-    by false f g = ltb-false _ _ f
-
--- all that stands behind a place
-pub rest : (l : List ℕ) (at : ℕ) → take (length l - at) (drop at l) ≡ drop at l
-rest l at = take-all (length l - at) (drop at l) (omega (arith, length-drop at l))

@@ -1,4 +1,3 @@
 -- The definitions that the contracts of `far` cite, and their laws.
 pub mod Far
-pub mod Wav
 pub mod Laws

@@ -4,11 +4,10 @@ ghost use Prim.Native.Nat.{_+_, _<_, _≤_};
 ghost use lib.ListN.{length};
 ghost use Rattle.laws.specs.Bytes.{same};
 ghost use Rattle.print.specs.Print.{pcm};
-ghost use Rattle.far.specs.Far.{starts, form, sample, printed, taken, samples};
-
-pub mod wav;
-
+ghost use Rattle.far.specs.Far.{form, printed, taken, samples};
+use pcm_line::sample;
 use print::FRAME_ROOM;
+use text::starts;
 
 // The forms.
 pub const WORDS: u32 = 0;
@@ -26,16 +25,6 @@ pub struct Found {
     pub samples: [i16; 80],
 }
 
-// Whether a text begins with another.
-pub(crate) fn starts(text: &[u8], with: &[u8]) -> bool
-    ensures { λ r. ⌜ r ≡ starts (now (with .entry)) (now (text .entry)) ⌝ }
-{
-    if text.len() < with.len() {
-        return false;
-    }
-    text::same(&text[0..with.len()], with)
-}
-
 // The form of a file that begins with these bytes.
 pub fn form(bytes: &[u8]) -> u32
     ensures { λ r. ⌜ r ≡ form (now (bytes .entry)) ⌝ }
@@ -47,19 +36,6 @@ pub fn form(bytes: &[u8]) -> u32
         return PRINTED;
     }
     WORDS
-}
-
-// The sample of the four digits at a place.
-fn sample(text: &[u8], at: usize) -> i16
-    requires { ⌜ at + 4 ≤ length (now text) ⌝ }
-    ensures { λ r. ⌜ r ≡ sample (now (text .entry)) at ⌝ }
-{
-    let a = text::value(text[at]) as u32;
-    let b = text::value(text[at + 1]) as u32;
-    let c = text::value(text[at + 2]) as u32;
-    let d = text::value(text[at + 3]) as u32;
-    let n = 4096 * a + 256 * b + 16 * c + d;
-    basic_op::extract_l(n as i32)
 }
 
 // The 80 samples of the digits behind `(pcm `.

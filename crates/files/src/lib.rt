@@ -40,6 +40,15 @@ pub fn say(name: &[u8], what: &[u8]) {
     io::write_all(STDERR_FILENO, b"\n");
 }
 
+// A line on standard error on a line of what a program reads.
+pub fn say_line(program: &[u8], line: u32, what: &[u8]) {
+    let mut digits = [0u8; 20];
+    let n = io::decimal(line as u64, &mut digits);
+    io::write_all(STDERR_FILENO, program);
+    io::write_all(STDERR_FILENO, b": line ");
+    say(&digits[0..n], what);
+}
+
 // Writes to standard output. False, with a message, where not all could be written.
 pub fn write(text: &[u8]) -> bool {
     let done = io::write_all(STDOUT_FILENO, text);
@@ -178,6 +187,18 @@ pub fn answered(a: Asked, program: &[u8], usage: &[u8], more: &[u8]) -> bool {
         return true;
     }
     why(program, a);
+    io::write_all(STDERR_FILENO, usage);
+    true
+}
+
+// Whether tables are asked for, of a program that has none: that is refused as any other unknown option.
+pub fn no_tables(a: Asked, program: &[u8], usage: &[u8]) -> bool {
+    if (a.tables == 0) & (a.what != options::FILE) & (a.what != options::TWICE) {
+        return false;
+    }
+    io::write_all(STDERR_FILENO, program);
+    io::write_all(STDERR_FILENO, b": ");
+    say(b"--tables", b"no such option");
     io::write_all(STDERR_FILENO, usage);
     true
 }

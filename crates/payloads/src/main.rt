@@ -2,8 +2,6 @@
 // is `payload-line` of payload_line.specs.PayloadLine. No contract can say what is read or written, so the work is done on lent memory, by crate payload_line.
 ghost use Prim.Native.Nat.{_≤_, _<_};
 ghost use lib.ListN.{length};
-use libc::STDERR_FILENO;
-use options::Asked;
 use payload_line::LONGEST;
 use payload_line::ROOM;
 use print::FORM_ROOM;
@@ -22,16 +20,6 @@ struct Place {
     to: usize,
     lines: u32,
     more: bool,
-}
-
-// Why a line is refused, on standard error.
-fn say(line: u32, what: &[u8]) {
-    let mut name = [0u8; 32];
-    let n = print::figure(b"payloads: line ", line, 0, &mut name);
-    let view: &[u8] = &name;
-    if n <= view.len() {
-        files::say(&view[0..n], what);
-    }
 }
 
 // Nothing is read any more.
@@ -54,7 +42,7 @@ fn refused(lines: u32, what: &[u8]) -> Place
     let mut form = [0u8; FORM_ROOM];
     let n = print::refused(9, number, &mut form);
     files::print(&form, n);
-    say(number, what);
+    files::say_line(b"payloads", number, what);
     ended(number)
 }
 
@@ -62,13 +50,15 @@ fn refused(lines: u32, what: &[u8]) -> Place
 fn take(text: &[u8], number: u32, out: &mut [u8; ROOM]) -> bool {
     let printed = payload_line::payload_line(text, number, out);
     if printed.code == 9 {
-        say(
+        files::say_line(
+            b"payloads",
             number,
             b"refused (9): neither the hexadecimal digits, 0-9 and a-f, of whole bytes nor a line of a call",
         );
     }
     if printed.code == 12 {
-        say(
+        files::say_line(
+            b"payloads",
             number,
             b"refused (12): the payload's length leaves a remainder other than 0 or 2 by ten",
         );
@@ -167,23 +157,12 @@ fn convert(fd: i32, name: &[u8]) {
     }
 }
 
-// Whether tables are asked for: this program has none.
-fn no_tables(a: Asked) -> bool {
-    if (a.tables == 0) & (a.what != options::FILE) & (a.what != options::TWICE) {
-        return false;
-    }
-    files::say(b"payloads: --tables", b"no such option");
-    let usage = USAGE;
-    io::write_all(STDERR_FILENO, &usage);
-    true
-}
-
 fn main() {
     let a = files::asked(0, 1);
-    if no_tables(a) {
+    let usage = USAGE;
+    if files::no_tables(a, b"payloads", &usage) {
         return;
     }
-    let usage = USAGE;
     let done = files::answered(
         a,
         b"payloads",

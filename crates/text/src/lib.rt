@@ -1,8 +1,9 @@
-// What the forms of text share (01, "The call text and the program"): hexadecimal digits and their values, and whether two texts are the same. Its definitions have texts as lists of bytes.
+// What the forms of text share (01, "The call text and the program"): hexadecimal digits and their values, whether two texts are the same, and whether one begins with the other. Its definitions have texts as lists of bytes.
 ghost use mathlib.Core.Path.{_≡_};
 ghost use Prim.Native.Nat.{_%_, _<_};
 ghost use Rattle.laws.specs.Bytes.{same};
 ghost use Rattle.laws.specs.Digits.{digit, is-digit, value};
+ghost use Rattle.text.specs.Text.{starts};
 
 // The digit of a number's low four bits.
 pub fn digit(v: u16) -> u8
@@ -66,4 +67,14 @@ pub fn same(a: &[u8], b: &[u8]) -> bool
         i += 1;
     }
     true
+}
+
+// Whether a text begins with another.
+pub fn starts(text: &[u8], with: &[u8]) -> bool
+    ensures { λ r. ⌜ r ≡ starts (now (with .entry)) (now (text .entry)) ⌝ }
+{
+    if text.len() < with.len() {
+        return false;
+    }
+    same(&text[0..with.len()], with)
 }

@@ -7,7 +7,8 @@ use lib.ListN.{length, length-set}
 use mir.Syntax.{w16}
 use Rattle.laws.specs.Back.{came}
 use Rattle.laws.specs.Lists.{filled, filled-none, fill, filled-end}
-use Rattle.far.specs.Far.{sample, printed}
+use Rattle.pcm_line.specs.PcmLine.{sample}
+use Rattle.far.specs.Far.{printed}
 use Rattle.far.proofs.digits.Statement.{statement}
 use Rattle.far.proofs.digits.Tie as tie
 

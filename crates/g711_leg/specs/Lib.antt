@@ -1,0 +1,2 @@
+-- The definitions that the contracts of `g711_leg` cite.
+pub mod Held

@@ -1,0 +1,2 @@
+-- The definitions that the contracts of `pcm_line` cite.
+pub mod PcmLine

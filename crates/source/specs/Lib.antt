@@ -1,0 +1,2 @@
+-- The definitions that the contracts of `source` cite.
+pub mod Source
