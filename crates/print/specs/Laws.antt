@@ -8,7 +8,8 @@ use native.Mathlib.Numerals.{add-one}
 use native.Mathlib.Nat.{zero-add}
 use lib.Dec.{ltb}
 use lib.IntN.{ℤ}
-use lib.ListN.{length, getD, set, length-append}
+use lib.ListN.{length, getD, set, length-append, List·getD-append}
+use lib.Seq.{getD-append-add}
 use borrow.Author.Tests.{ltb-true, ltb-false, lt-ltb, le-ltb}
 use mir.Syntax.{w16}
 use mir.Val.{toZ, SFits}
@@ -60,6 +61,22 @@ number-word n h =
 -- the four digits of a sample, read in two's complement, are the sample
 pub sample-back : (z : ℤ) → SFits w16 z → toZ w16 (number (word (low16 z))) ≡ z
 sample-back z f = rw (number-word (low16 z) (low-lt z), low-bits z (f .sfits)) (toZ-ofZ f)
+
+-- digit j of sample k
+pub words-at : (n k j : ℕ) (l : List ℤ) → k < n → j < 4 → getD (words n l) (4 * k + j) 0 ≡ getD (word (low16 (at l k))) j 0
+unfolding words
+words-at zero k j l h i = absurd (omega arith)
+words-at (suc n) k j l h i = by (ltb k n) refl (words-at n k j l)
+  where
+    by : (t : Bool) → ltb k n ≡ t → (k < n → j < 4 → getD (words n l) (4 * k + j) 0 ≡ getD (word (low16 (at l k))) j 0)
+        → getD (words n l ++ word (low16 (at l n))) (4 * k + j) 0 ≡ getD (word (low16 (at l k))) j 0
+    by true e g =
+        let m : k < n = ltb-true _ _ e in
+        List·getD-append (words n l) (word (low16 (at l n))) 0 (4 * k + j) (omega (arith, length-words n l)) ∙ g m i
+    by false e g =
+        let m : k ≡ n = omega (arith, ltb-false k n e) in
+        let q : 4 * k + j ≡ length (words n l) + j = omega (arith, length-words n l) in
+        rw (q, getD-append-add (words n l) (word (low16 (at l n))) j 0, m)
 
 -- ---- decimal digits
 
@@ -160,6 +177,10 @@ number-more n from last lent out h f i p = (
 pub front : {s lent out : List ℕ} {r : ℕ} → Put s 0 lent r out → (r ≡ length s) × (out ≡ over s lent)
 unfolding over written
 front {s} p = (p .place ∙ zero-add (length s), p .bytes ∙ rw zero-add)
+
+pub over-fits : (s lent : List ℕ) {out : List ℕ} → out ≡ over s lent → length s ≤ length out
+unfolding over
+over-fits s lent e = rw (e, length-append) (omega arith)
 
 -- the number whose decimal digits are those of a and then l
 unfoldable pub read : ℕ → List ℕ → ℕ

@@ -1,6 +1,6 @@
 // The printed forms of the decoding program, each ended by a line feed, written into lent memory.
 ghost use mathlib.Core.Path.{_≡_};
-ghost use Prim.Native.Nat.{_+_, _≤_};
+ghost use Prim.Native.Nat.{_+_, _*_, _≤_};
 ghost use lib.ListN.{length};
 ghost use Rattle.text.specs.Text.{Put};
 ghost use Rattle.print.specs.Print.{frame-room, form-room, word, words, pcm, decimal, figure, figures, total, saved, refused, over};
@@ -36,13 +36,13 @@ fn word(x: u16, from: usize, out: &mut [u8]) -> usize
 }
 
 // Four digits for each sample.
-fn words(samples: &[i16; 80], from: usize, out: &mut [u8]) -> usize
-    requires { ⌜ from + 320 ≤ length (now out) ⌝ }
-    ensures { λ r. ⌜ Put (words 80 (now (samples .entry))) from (now (out .entry)) r (now (out .exit)) ⌝ }
+pub fn words(samples: &[i16], from: usize, out: &mut [u8]) -> usize
+    requires { ⌜ from + 4 * length (now samples) ≤ length (now out) ⌝ }
+    ensures { λ r. ⌜ Put (words (length (now (samples .entry))) (now (samples .entry))) from (now (out .entry)) r (now (out .exit)) ⌝ }
 {
     let mut at = from;
     let mut i = 0;
-    while i < 80 {
+    while i < samples.len() {
         at = word(basic_op::low16(samples[i]), at, out);
         i += 1;
     }

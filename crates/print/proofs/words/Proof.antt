@@ -2,6 +2,7 @@
 use mathlib.Core.Path.{_≡_, ap, _∙_}
 use Prim.Native.Nat.{_-_, _≤_}
 use native.Mathlib.Omega.{arith}
+use lib.ListN.{length}
 use borrow.Author.Needs.{needs}
 use mir.Syntax.{w16}
 use Rattle.basic_op.specs.Ops.{low16}
@@ -14,10 +15,10 @@ use Rattle.print.proofs.words.Statement.{statement}
 use Rattle.print.proofs.words.Tie as tie
 
 abbrev Inv-loop : tie.InvT-loop
-Inv-loop samples from out₀ at₀ i₀ out at i = (i ≤ 80) × Put (words i samples) from out₀ at out
+Inv-loop samples from out₀ at₀ i₀ out at i = (i ≤ length samples) × Put (words i samples) from out₀ at out
 
 abbrev μ-loop : tie.MeasureT-loop
-μ-loop samples from out₀ at₀ i₀ out at i = 80 - i
+μ-loop samples from out₀ at₀ i₀ out at i = length samples - i
 
 loop-holds : tie.Need-loop-holds Inv-loop μ-loop
 loop-holds c =
@@ -42,7 +43,7 @@ same-length c = kept (c .before .loop .inv .1)
 returns : tie.Need-returns Inv-loop μ-loop
 returns c =
     let l = c .before in
-    let h : l .loop .i ≡ 80 = omega arith in
+    let h : l .loop .i ≡ length (l .before .before .args .samples .now) = omega arith in
     rw h at (l .loop .inv .1)
 
 pub words-spec : {M : Type 1} → statement M
