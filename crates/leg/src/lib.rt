@@ -43,7 +43,7 @@ pub fn line(law: u32, bytes: &[u8], out: &mut [u8; FRAME_ROOM]) -> usize
 // `bytes_of` on a slice.
 fn step(law: u32, text: &[u8], bytes: &mut [u8]) -> Taken
     requires { ⌜ 80 ≤ length (now bytes) ⌝ }
-    ensures { λ r. ⌜ Answer.answer (r .code) (r .samples) (now (bytes .exit)) ≡ bytes-of law (now (text .entry)) (now (bytes .entry)) ⌝ }
+    ensures { λ r. ⌜ (Answer.answer (r .code) (r .samples) (now (bytes .exit)) ≡ bytes-of law (now (text .entry)) (now (bytes .entry))) × (r .samples ≤ 80) ⌝ }
 {
     let mut samples = [0i16; 80];
     let n = pcm_line::read(text, &mut samples);
@@ -67,7 +67,7 @@ fn step(law: u32, text: &[u8], bytes: &mut [u8]) -> Taken
 // The bytes of a line, without its line feed, at the front of `bytes`, and how many: the bytes behind them are as they were. 16: another law. 9: no line of 1 to 80 samples. 17: a sample
 // that is no table value. Each with no samples, and nothing written.
 pub fn bytes_of(law: u32, text: &[u8], bytes: &mut [u8; 80]) -> Taken
-    ensures { λ r. ⌜ Answer.answer (r .code) (r .samples) (now (bytes .exit)) ≡ bytes-of law (now (text .entry)) (now (bytes .entry)) ⌝ }
+    ensures { λ r. ⌜ (Answer.answer (r .code) (r .samples) (now (bytes .exit)) ≡ bytes-of law (now (text .entry)) (now (bytes .entry))) × (r .samples ≤ 80) ⌝ }
 {
     step(law, text, bytes)
 }

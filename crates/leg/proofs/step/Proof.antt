@@ -19,7 +19,7 @@ returns c =
     let w = c .before .before .before in
     let r = w .before .before .before .before in
     let s = r .before .before .before .before .args in
-    bytes-told (s .law) (s .text .now) (s .bytes .now) _ (r .read .ensures) (omega (arith, found-few _ _ (r .read .ensures))) (w .write .ensures) (c .if1 .taken)
+    (bytes-told (s .law) (s .text .now) (s .bytes .now) _ (r .read .ensures) (omega (arith, found-few _ _ (r .read .ensures))) (w .write .ensures) (c .if1 .taken), omega arith)
 
 returns-2 : tie.Need-returns-2
 returns-2 c =
@@ -27,7 +27,7 @@ returns-2 c =
     let w = k .before .before .before in
     let r = w .before .before .before .before in
     let s = r .before .before .before .before .args in
-    bytes-none (s .law) (s .text .now) (s .bytes .now) _ (r .read .ensures) (omega (arith, found-few _ _ (r .read .ensures))) (w .write .ensures) (k .if1 .left) (c .if2 .taken)
+    (bytes-none (s .law) (s .text .now) (s .bytes .now) _ (r .read .ensures) (omega (arith, found-few _ _ (r .read .ensures))) (w .write .ensures) (k .if1 .left) (c .if2 .taken), omega arith)
 
 returns-3 : tie.Need-returns-3
 returns-3 c =
@@ -35,7 +35,7 @@ returns-3 c =
     let w = k .before .before .before in
     let r = w .before .before .before .before in
     let s = r .before .before .before .before .args in
-    bytes-done (s .law) (s .text .now) (s .bytes .now) _ (r .read .ensures) (omega (arith, found-few _ _ (r .read .ensures))) (w .write .ensures) (k .if1 .left) (c .if2 .left)
+    (bytes-done (s .law) (s .text .now) (s .bytes .now) _ (r .read .ensures) (omega (arith, found-few _ _ (r .read .ensures))) (w .write .ensures) (k .if1 .left) (c .if2 .left), omega (arith, found-few _ _ (r .read .ensures)))
 
 pub step-spec : {M : Type 1} → statement M
 step-spec =
