@@ -8,7 +8,7 @@ use lib.Dec.{eqb}
 use lib.IntN.{ℤ}
 use lib.ListN.{length, take, drop, length-append, length-map, length-take, take-append-drop}
 use lib.Seq.{take-all, take-at, length-take-le}
-use borrow.Author.Tests.{eq-eqb, ne-eqb}
+use borrow.Author.Tests.{eq-eqb, ne-eqb, eqb-false}
 use Rattle.print.specs.Print.{frame-room, over}
 use Rattle.g711.specs.G711.{known, value, byte-of, all-values, read, written, refusal, read-call, write-call}
 use Rattle.pcm_line.specs.PcmLine.{pcm-line, samples}
@@ -52,7 +52,7 @@ module _ (law : ℕ) (l : List ℕ) (h : length l ≤ 80) (lent : List ℤ) (k :
           same true = refl
           same false = refl
 
-  values : code ≡ 0 → (known law ≡ true) × (v ≡ map (value law) l)
+  pub values : code ≡ 0 → (known law ≡ true) × (v ≡ map (value law) l)
   values c = by (known law) refl
     where
       by : (p : Bool) → known law ≡ p → (known law ≡ true) × (v ≡ map (value law) l)
@@ -136,6 +136,26 @@ module _ (law : ℕ) (lent : List ℕ) (l : List ℤ) (h : length l ≤ length l
   done c n =
       let w = wrote c in
       rw (w .2, w .0, w .1, ne-eqb (length l) 0 n)
+
+-- what is said of samples that are taken
+pub record Took (law : ℕ) (l : List ℤ) (lent : List ℕ) (n : ℕ) (left : List ℕ) : Type 0 where
+  pub known-law : known law ≡ true
+  pub some-samples : length l ≡ 0 → ⊥
+  pub table-values : all-values law l ≡ true
+  pub many : n ≡ length l
+  pub bytes : left ≡ map (byte-of law) l ++ drop (length l) lent
+
+pub took : (law : ℕ) (l : List ℤ) (lent left : List ℕ) (n : ℕ) → answer 0 n left ≡ back-to law l lent → Took law l lent n left
+unfolding back-to
+took law l lent left n = by (known law) (eqb (length l) 0) (all-values law l) refl refl refl
+  where
+    by : (p q r : Bool) → known law ≡ p → eqb (length l) 0 ≡ q → all-values law l ≡ r
+        → answer 0 n left ≡ cond p (cond q (answer 9 0 lent) (cond r (answer 0 (length l) (map (byte-of law) l ++ drop (length l) lent)) (answer 17 0 lent))) (answer 16 0 lent)
+        → Took law l lent n left
+    by true false true f g v e = record { known-law = f; some-samples = eqb-false (length l) 0 g; table-values = v; many = cc; bytes = cc }
+    by true false false f g v e = let z : _≡_ {A = ℕ} 0 17 = cc in absurd (omega arith)
+    by true true r f g v e = let z : _≡_ {A = ℕ} 0 9 = cc in absurd (omega arith)
+    by false q r f g v e = let z : _≡_ {A = ℕ} 0 16 = cc in absurd (omega arith)
 
 -- ---- the same of the samples that `pcm_line::read` found
 

@@ -1,25 +1,26 @@
--- A printed leg gives its bytes back (change request 8: a table value turns back into its byte, mu-law zero into FF). Assumes nothing.
+-- A printed line of a leg gives its bytes back, and bytes the line that they were taken from (change request 8: a table value turns back into its byte, mu-law zero into FF). Assumes nothing.
 use mathlib.Core.Path.{_≡_, refl, sym, ap, _∙_}
 use mathlib.Core.Bool.{Bool, true, cond}
 use mathlib.Core.List.{List, [], _∷_, _++_, map}
 use Prim.Native.Nat.{ℕ, zero, suc, _-_, _≤_, _<_}
 use native.Mathlib.Omega.{arith}
 use lib.Dec.{T, eqb, ltb, ltb→lt}
-use lib.IntN.{ℤ}
+use lib.IntN.{ℤ, pos}
 use lib.Signed.{mag}
-use lib.ListN.{length, getD, take, drop, length-map}
-use lib.Seq.{length-take-le}
+use lib.ListN.{length, getD, take, drop, replicate, length-map, length-take, length-replicate}
+use lib.Seq.{length-take-le, take-at}
 use borrow.Author.Tests.{ne-eqb}
 use Rattle.laws.specs.Lists.{at}
 use Rattle.laws.specs.Loops.{every, every-at}
+use Rattle.text.specs.Text.{ascii}
 use Rattle.print.specs.Print.{over}
-use Rattle.g711.specs.G711.{a, mu, known, value, back}
+use Rattle.g711.specs.G711.{a, mu, known, value, byte-of, back}
 use Rattle.g711.specs.Laws.{both}
-use Rattle.g711.specs.Undo.{read-write}
-use Rattle.pcm_line.specs.PcmLine.{pcm-text, pcm-line}
-use Rattle.pcm_line.specs.Laws.{text-taken, samples-text}
+use Rattle.g711.specs.Undo.{read-write, write-read}
+use Rattle.pcm_line.specs.PcmLine.{pcm-text, pcm-line, samples}
+use Rattle.pcm_line.specs.Laws.{text-taken, samples-text, line-samples, samples-few}
 use Rattle.leg.specs.Leg.{leg-line, bytes-of, answer}
-use Rattle.leg.specs.Laws.{done}
+use Rattle.leg.specs.Laws.{values, done, took}
 
 -- ---- samples of a law are words of 16 bits: one test over all bytes
 
@@ -56,3 +57,19 @@ bytes-back law l lent out buffer n e h m b r f g =
     let t : take (n - 1) out ≡ pcm-text s = text-taken s lent (f ∙ ap length p) (g ∙ ap (λ (x : List ℕ). over x lent) p) in
     let d = done law buffer s (omega arith) (sym (read-write law e l (take (length s) buffer) s b (sym k) (length-take-le (length s) buffer (omega arith) ∙ k) .1)) refl (λ z. omega arith) in
     rw (t, samples-text s (omega arith) (all-words law e l b), ← k) (sym d)
+
+-- ---- and a line that gives bytes is what is printed of these
+
+pub line-back : (law : ℕ) (t lent left : List ℕ) (n : ℕ) → answer 0 n left ≡ bytes-of law t lent → leg-line law (take n left) ≡ t ++ ascii "\n"
+unfolding bytes-of leg-line
+line-back law t lent left n e =
+    let s : List ℤ = samples t in
+    let b : List ℕ = map (byte-of law) s in
+    let w = took law s lent left n e in
+    let k : length b ≡ length s = length-map s (byte-of law) in
+    let f : take n left ≡ b = rw (w .bytes) (take-at b (drop (length s) lent) n (k ∙ sym (w .many))) in
+    let zeros : List ℤ = replicate 80 (pos 0) in
+    let few : length b ≤ 80 = omega (arith, samples-few t) in
+    let room : length s ≡ length (take (length b - 0) zeros) = simp (length-take, length-replicate) (omega arith) in
+    let v : s ≡ map (value law) b = values law b few zeros refl (sym (write-read law (w .known-law) s (take (length b - 0) zeros) b (w .table-values) k room .1)) refl .1 in
+    rw (f, ne-eqb (length b) 0 (λ z. w .some-samples (omega arith)), w .known-law, ← v) (line-samples t (omega (arith, w .some-samples)))

@@ -164,7 +164,7 @@ samples-text l h f =
     rw (c, digits-back l f, le-ltb 80 (length l) h, same-self (pcm-text l))
 
 -- a text that has samples is what is printed of them, at most 80
-pub text-samples : (l : List ℕ) → 0 < length (samples l) → l ≡ pcm-text (samples l)
+text-samples : (l : List ℕ) → 0 < length (samples l) → l ≡ pcm-text (samples l)
 unfolding samples is-line
 text-samples l = by (ltb 80 (count l)) (same l (pcm-text (digits (count l) l))) refl
   where
@@ -173,6 +173,10 @@ text-samples l = by (ltb 80 (count l)) (same l (pcm-text (digits (count l) l))) 
     by true q e h = absurd (omega arith)
     by false false e h = absurd (omega arith)
     by false true e h = same-true l (pcm-text (digits (count l) l)) e
+
+pub line-samples : (l : List ℕ) → 0 < length (samples l) → pcm-line (samples l) ≡ l ++ ascii "\n"
+unfolding pcm-line
+line-samples l h = ap (λ (x : List ℕ). x ++ ascii "\n") (sym (text-samples l h))
 
 pub samples-few : (l : List ℕ) → length (samples l) ≤ 80
 unfolding samples is-line

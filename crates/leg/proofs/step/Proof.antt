@@ -1,5 +1,4 @@
 -- `leg::step` meets its contract: what `g711::write` answers of the samples that the line has.
-use mathlib.Core.Path.{refl}
 use native.Mathlib.Omega.{arith}
 use borrow.Author.Needs.{needs}
 use Rattle.leg.specs.Laws.{found-few, found-fits, bytes-told, bytes-none, bytes-done}
