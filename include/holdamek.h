@@ -117,7 +117,7 @@ enum holdamek_refusal {
     HOLDAMEK_FRAME_INDEX = 13,        /* the index isn't below the number of frames of the RTP payload */
     HOLDAMEK_FIELD_WIDTH = 15,        /* a field exceeds its width */
     HOLDAMEK_OTHER_LAW = 16,          /* the law is neither 1 nor 2 */
-    HOLDAMEK_TABLE_VALUE = 17         /* a sample isn't a table value of the law: no byte is read as it */
+    HOLDAMEK_NO_TABLE_VALUE = 17      /* a sample isn't a table value of the law: no byte is read as it */
 };
 
 /* How many frames an RTP payload has. */

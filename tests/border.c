@@ -796,7 +796,7 @@ static void of_leg_lengths(uint32_t law)
     CHECK(unread(law, 0, 0, HOLDAMEK_OK) && leg_refused(law, 0, 0, HOLDAMEK_OK, HOLDAMEK_OK));
     /* Equal numbers: only the values are left to be refused. */
     for (b = 1; b <= MORE_LEG; b++)
-        check(holdamek_g711_write(law, words + 1, b, leg + 1, b) == HOLDAMEK_TABLE_VALUE && kept_leg(), "a sample that is no value is refused last");
+        check(holdamek_g711_write(law, words + 1, b, leg + 1, b) == HOLDAMEK_NO_TABLE_VALUE && kept_leg(), "a sample that is no value is refused last");
 }
 
 /* Every byte by itself and back, and every sample by itself. */
@@ -832,7 +832,7 @@ static void of_values(uint32_t law)
             check(value(law, leg[1]) == sample && (sample != 0 || leg[1] == 0xff), "a sample becomes a byte that is read as it");
             leg[1] = leg_before[1];
         } else {
-            check(code == HOLDAMEK_TABLE_VALUE, "another sample is refused");
+            check(code == HOLDAMEK_NO_TABLE_VALUE, "another sample is refused");
         }
         check(kept_leg(), "nothing else is written");
     }
@@ -866,7 +866,7 @@ static void of_legs(uint32_t law)
         words[n] = (int16_t)(words[n] ^ 1);
         memset(leg, MARK_BYTE, sizeof leg);
         memcpy(leg_before, leg, sizeof leg);
-        check(holdamek_g711_write(law, words + 1, MORE_LEG, leg + 1, MORE_LEG) == HOLDAMEK_TABLE_VALUE && memcmp(leg, leg_before, sizeof leg) == 0,
+        check(holdamek_g711_write(law, words + 1, MORE_LEG, leg + 1, MORE_LEG) == HOLDAMEK_NO_TABLE_VALUE && memcmp(leg, leg_before, sizeof leg) == 0,
               "a sample that is no value is refused before a byte is written");
         words[n] = (int16_t)(words[n] ^ 1);
         CHECK(memcmp(words, words_before, sizeof words) == 0);

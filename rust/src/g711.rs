@@ -15,7 +15,7 @@ use crate::{ffi, Refusal};
 /// let mut bytes = [0; 2];
 /// Law::A.write(&samples, &mut bytes)?;
 /// assert_eq!(bytes, [0xd5, 0x55]);
-/// assert_eq!(Law::A.write(&[8, 9], &mut bytes), Err(Refusal::TableValue));
+/// assert_eq!(Law::A.write(&[8, 9], &mut bytes), Err(Refusal::NoTableValue));
 /// # Ok(())
 /// # }
 /// ```
@@ -48,7 +48,7 @@ impl Law {
     /// rounded, and where one is refused no byte is written.
     ///
     /// # Errors
-    /// [`Refusal::OutputLength`], where there are not as many bytes as samples; [`Refusal::TableValue`].
+    /// [`Refusal::OutputLength`], where there are not as many bytes as samples; [`Refusal::NoTableValue`].
     pub fn write(self, samples: &[i16], bytes: &mut [u8]) -> Result<(), Refusal> {
         Refusal::check(ffi::g711_write(self.number(), samples, bytes))
     }

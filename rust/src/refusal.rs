@@ -35,9 +35,9 @@ pub enum Refusal {
     /// 15: a field exceeds its width.
     FieldWidth,
     /// 16: there is no such law of G.711. A [`Law`](crate::Law) is never refused with it.
-    Law,
+    OtherLaw,
     /// 17: a sample isn't a table value of the law: no byte is read as it.
-    TableValue,
+    NoTableValue,
     /// A number that this version of the crate doesn't know.
     Other(u32),
 }
@@ -65,7 +65,7 @@ const NUMBERED: [(u32, Refusal, &str); 16] = [
     (
         7,
         Refusal::OutputLength,
-        "the output isn't 80 words, or a G.711 leg has not as many bytes as samples",
+        "the output isn't 80 words, or the room for a line isn't 36 bytes, or a G.711 leg has not as many bytes as samples",
     ),
     (
         8,
@@ -90,10 +90,10 @@ const NUMBERED: [(u32, Refusal, &str); 16] = [
         "the index isn't below the number of frames of the RTP payload",
     ),
     (15, Refusal::FieldWidth, "a field exceeds its width"),
-    (16, Refusal::Law, "there is no such law of G.711"),
+    (16, Refusal::OtherLaw, "there is no such law of G.711"),
     (
         17,
-        Refusal::TableValue,
+        Refusal::NoTableValue,
         "a sample isn't a table value of the law",
     ),
 ];

@@ -564,7 +564,7 @@ fn every_other_sample_is_refused() {
                 assert_eq!(value(law, byte[0]), sample);
                 taken += 1;
             } else {
-                assert_eq!((answer, byte), (Err(Refusal::TableValue), [0x7e]));
+                assert_eq!((answer, byte), (Err(Refusal::NoTableValue), [0x7e]));
             }
         }
         assert_eq!(taken, if law == Law::A { 256 } else { 255 });
@@ -573,7 +573,7 @@ fn every_other_sample_is_refused() {
             let (mut samples, mut bytes) = (values.clone(), [0x7e; 256]);
             samples[place] ^= 1;
             let answer = law.write(&samples, &mut bytes);
-            assert_eq!((answer, bytes), (Err(Refusal::TableValue), [0x7e; 256]));
+            assert_eq!((answer, bytes), (Err(Refusal::NoTableValue), [0x7e; 256]));
         }
     }
 }
@@ -588,7 +588,7 @@ fn a_leg_has_as_many_bytes_as_samples() {
             let due = match (bytes == samples, samples) {
                 (false, _) => refused,
                 (true, 0) => Ok(()),
-                (true, _) => Err(Refusal::TableValue),
+                (true, _) => Err(Refusal::NoTableValue),
             };
             assert_eq!(law.write(&words, &mut lent), due);
             assert_eq!(lent, vec![0x7e; bytes]);
@@ -624,8 +624,8 @@ fn refusals_have_their_numbers() {
     assert_eq!(Refusal::PayloadRemainder.code(), 12);
     assert_eq!(Refusal::FrameIndex.code(), 13);
     assert_eq!(Refusal::FieldWidth.code(), 15);
-    assert_eq!(Refusal::Law.code(), 16);
-    assert_eq!(Refusal::TableValue.code(), 17);
+    assert_eq!(Refusal::OtherLaw.code(), 16);
+    assert_eq!(Refusal::NoTableValue.code(), 17);
     assert_eq!(
         Refusal::LineForm.to_string(),
         "refusal 9: the line isn't one of the four forms"

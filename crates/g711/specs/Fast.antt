@@ -10,7 +10,7 @@ use Rattle.laws.specs.Lists.{at}
 use Rattle.laws.specs.Loops.{steps}
 use Rattle.g711.specs.declared.Form.{Form}
 
--- that of a law
+-- the form of a law
 unfoldable pub form : ℕ → Form
 form law =
     cond (eqb law 1)
@@ -52,5 +52,5 @@ unfoldable pub segment-less : ℕ → ℕ → ℕ
 segment-less x limit = cond (ltb x limit) 240 0
 
 -- the byte of a sample that has one
-unfoldable pub guess : Form → ℤ → ℕ
-guess f z = bitXor (bitXor ((leading (sized f z) + 160 + segment-less (natAbs z + f .bias) (f .lift)) % 256) (sign-bit z)) (f .flips)
+unfoldable pub found-byte : Form → ℤ → ℕ
+found-byte f z = bitXor (bitXor ((leading (sized f z) + 160 + segment-less (natAbs z + f .bias) (f .lift)) % 256) (sign-bit z)) (f .flips)

@@ -21,7 +21,7 @@ use Rattle.laws.specs.Lists.{at}
 use Rattle.laws.specs.Loops.{every, every-at, steps}
 use Rattle.g711.specs.declared.Form.{Form}
 use Rattle.g711.specs.G711.{sign, segment, step, mu, a, known, value, last, byte-of, back, all-values, Read, Written, read, written, refusal, read-call, write-call}
-use Rattle.g711.specs.Fast.{form, lifted, sized, lowest, five-above, fault, faults, leading, sign-bit, segment-less, guess}
+use Rattle.g711.specs.Fast.{form, lifted, sized, lowest, five-above, fault, faults, leading, sign-bit, segment-less, found-byte}
 
 -- ---- the tables
 
@@ -320,14 +320,14 @@ both P p q law e = by (eqb law 1) (eqb law 2) refl refl e
 
 -- one test over all bytes of a law: a byte's sample has no fault, and the byte found of it is the one that it turns back into
 finds : ℕ → Bool
-finds law = every 256 (λ b. eqb (fault (form law) (value law b)) 0 && eqb (guess (form law) (value law b)) (back law b))
+finds law = every 256 (λ b. eqb (fault (form law) (value law b)) 0 && eqb (found-byte (form law) (value law b)) (back law b))
 
 a-finds : T (finds 1)
-unfolding finds every form value a back sized lifted lowest five-above fault leading ofInt toBits sign-bit segment-less guess
+unfolding finds every form value a back sized lifted lowest five-above fault leading ofInt toBits sign-bit segment-less found-byte
 a-finds = tt
 
 mu-finds : T (finds 2)
-unfolding finds every form value mu back sized lifted lowest five-above fault leading ofInt toBits sign-bit segment-less guess
+unfolding finds every form value mu back sized lifted lowest five-above fault leading ofInt toBits sign-bit segment-less found-byte
 mu-finds = tt
 
 -- zero has two bytes in mu-law
@@ -351,12 +351,12 @@ module _ (law : ℕ) (e : known law ≡ true) where
   any-byte : (z : ℤ) → fault (form law) z ≡ 0 → Byte (value law) z
   any-byte z = both (λ l. fault (form l) z ≡ 0 → Byte (value l) z) (of-a z) (of-mu z) law e
 
-  found : (b : ℕ) → b < 256 → (fault (form law) (value law b) ≡ 0) × (guess (form law) (value law b) ≡ back law b)
+  found : (b : ℕ) → b < 256 → (fault (form law) (value law b) ≡ 0) × (found-byte (form law) (value law b) ≡ back law b)
   unfolding finds
   found b h =
-      let t = every-at 256 (λ b. eqb (fault (form law) (value law b)) 0 && eqb (guess (form law) (value law b)) (back law b)) (both (λ l. T (finds l)) a-finds mu-finds law e) b h in
-      let p = and-yes (eqb (fault (form law) (value law b)) 0) (eqb (guess (form law) (value law b)) (back law b)) t in
-      (eqb→eq (fault (form law) (value law b)) 0 (p .0), eqb→eq (guess (form law) (value law b)) (back law b) (p .1))
+      let t = every-at 256 (λ b. eqb (fault (form law) (value law b)) 0 && eqb (found-byte (form law) (value law b)) (back law b)) (both (λ l. T (finds l)) a-finds mu-finds law e) b h in
+      let p = and-yes (eqb (fault (form law) (value law b)) 0) (eqb (found-byte (form law) (value law b)) (back law b)) t in
+      (eqb→eq (fault (form law) (value law b)) 0 (p .0), eqb→eq (found-byte (form law) (value law b)) (back law b) (p .1))
 
   back-range : (b : ℕ) → b < 256 → (b ≤ back law b) × (back law b < 256)
   unfolding back
@@ -383,7 +383,7 @@ module _ (law : ℕ) (e : known law ≡ true) where
   -- bytes of one sample turn back into one byte, the greatest
   greatest : (b j : ℕ) → b < 256 → j < 256 → value law j ≡ value law b → j ≤ back law b
   greatest b j h l g =
-      let s : back law j ≡ back law b = sym (found j l .1) ∙ ap (guess (form law)) g ∙ found b h .1 in
+      let s : back law j ≡ back law b = sym (found j l .1) ∙ ap (found-byte (form law)) g ∙ found b h .1 in
       omega (arith, back-range j l .0)
 
   pub there-back : (b : ℕ) → b < 256 → byte-of law (value law b) ≡ back law b
@@ -396,20 +396,20 @@ module _ (law : ℕ) (e : known law ≡ true) where
   unfolding byte-of
   byte-none z f = last-none (value law) z 256 (λ k l g. f (sym (ap (fault (form law)) g) ∙ found k l .0))
 
-  byte-guess : (z : ℤ) → fault (form law) z ≡ 0 → (byte-of law z ≡ guess (form law) z) × (byte-of law z < 256)
-  byte-guess z f =
+  byte-found : (z : ℤ) → fault (form law) z ≡ 0 → (byte-of law z ≡ found-byte (form law) z) × (byte-of law z < 256)
+  byte-found z f =
       let y = any-byte z f in
       let t : byte-of law z ≡ back law (y .b) = ap (byte-of law) (sym (y .is)) ∙ there-back (y .b) (y .small) in
-      (t ∙ sym (found (y .b) (y .small) .1) ∙ ap (guess (form law)) (y .is), rw t (back-lt (y .b) (y .small)))
+      (t ∙ sym (found (y .b) (y .small) .1) ∙ ap (found-byte (form law)) (y .is), rw t (back-lt (y .b) (y .small)))
 
   -- ---- a list of samples
 
   all-fit : (l : List ℤ) → ((k : ℕ) → k < length l → fault (form law) (at l k) ≡ 0)
-      → (all-values law l ≡ true) × (map (guess (form law)) l ≡ map (byte-of law) l)
+      → (all-values law l ≡ true) × (map (found-byte (form law)) l ≡ map (byte-of law) l)
   unfolding all-values
   all-fit [] h = (refl, refl)
   all-fit (z ∷ l) h =
-      let g = byte-guess z (h 0 (omega arith)) in
+      let g = byte-found z (h 0 (omega arith)) in
       let q = all-fit l (λ k i. h (suc k) (omega arith)) in
       (rw (lt-ltb (byte-of law z) 256 (g .1), q .0), rw (g .0, q .1))
 
@@ -465,7 +465,7 @@ module _ (law : ℕ) (e : known law ≡ true) where
         by true v = absurd (f (all-faultless (form law) samples (length samples) (each-fits law e samples v)))
         by false v = refl
 
-    pub write-done : (out : List ℕ) → faults (form law) samples (length samples) ≡ 0 → out ≡ map (guess (form law)) samples
+    pub write-done : (out : List ℕ) → faults (form law) samples (length samples) ≡ 0 → out ≡ map (found-byte (form law)) samples
         → written 0 out ≡ write-call law samples before
     unfolding write-call refusal
     write-done out f g =

@@ -6,7 +6,7 @@ ghost use lib.IntN.{natAbs};
 ghost use lib.ListN.{length};
 ghost use Rattle.g711.specs.G711.{a, mu, known, refusal, Read, Written, read-call, write-call};
 ghost use Rattle.g711.specs.Laws.{Expanded};
-ghost use Rattle.g711.specs.Fast.{form, lifted, sized, lowest, fault, faults, leading, sign-bit, segment-less, guess};
+ghost use Rattle.g711.specs.Fast.{form, lifted, sized, lowest, fault, faults, leading, sign-bit, segment-less, found-byte};
 
 mod tables;
 
@@ -101,7 +101,7 @@ struct Form {
     flips: u8,
 }
 
-// That of a law.
+// The form of a law.
 fn form_of(law: u32) -> Form
     ensures { λ r. ⌜ r ≡ form law ⌝ }
 {
@@ -170,7 +170,7 @@ fn fault(z: i16, f: Form) -> u16
     }
 }
 
-// 0 where each sample is one. Without a branch, so that eight are looked at at a time.
+// 0 where each sample is one. There is no early return, so that the compiler can take several at a time (docs/PERFORMANCE.md).
 fn faults(samples: &[i16], f: Form) -> u16
     requires { ⌜ f .bias ≤ 132 ⌝ }
     ensures { λ r. ⌜ r ≡ faults f (now (samples .entry)) (length (now (samples .entry))) ⌝ }
@@ -208,7 +208,7 @@ fn segment_less(x: u16, limit: u16) -> u16
 // The byte of a sample that has one. The exponent of 128, where the first segment begins, is 7, in a float 134; 16 · 134 + 160 is 0 in a byte.
 fn byte(z: i16, f: Form) -> u8
     requires { ⌜ f .bias ≤ 132 ⌝ }
-    ensures { λ r. ⌜ r ≡ guess f z ⌝ }
+    ensures { λ r. ⌜ r ≡ found-byte f z ⌝ }
 {
     let t = leading(sized(z, f)) + 160 + segment_less(size(z) + f.bias, f.lift);
     (t % 256) as u8 ^ sign_bit(z) ^ f.flips
@@ -217,7 +217,7 @@ fn byte(z: i16, f: Form) -> u8
 // The bytes of samples that have one each.
 fn compress(samples: &[i16], f: Form, bytes: &mut [u8])
     requires { ⌜ (length (now samples) ≡ length (now bytes)) × (f .bias ≤ 132) ⌝ }
-    ensures { λ r. ⌜ now (bytes .exit) ≡ map (guess f) (now (samples .entry)) ⌝ }
+    ensures { λ r. ⌜ now (bytes .exit) ≡ map (found-byte f) (now (samples .entry)) ⌝ }
 {
     let mut i = 0;
     while i < bytes.len() {

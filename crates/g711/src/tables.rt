@@ -1,5 +1,5 @@
-// The sample of each byte (ITU-T G.711, Tables 1a to 2b): entry b is the value of byte b. `table` of lib.rt has the rule that each meets.
-// A call binds the table of its law by a `let`, once: an array constant that is indexed would be copied at each read.
+// The sample of each byte (ITU-T G.711, Tables 1a to 2b): entry b is the value of byte b. `expand_a` and `expand_mu` of lib.rt promise the rule that each meets.
+// They bind it by a `let`, once a call: an array constant that is indexed would be copied at each read.
 pub const A_LAW: [i16; 256] = [
     -5504,
     -5248,

@@ -144,6 +144,12 @@ fn convert(law: u32, fd: i32, name: &[u8], start: Source, input: &mut [u8; ROOM]
         most = rest(most, p.more);
     }
     if p.good {
+        if source::cut(p.source) {
+            files::say(
+                name,
+                b"a WAV file that ends before its samples do; it was cut",
+            );
+        }
         tell(b"(total (samples ", p.samples);
     }
 }

@@ -15,6 +15,9 @@ use wav::HEADER;
 // The bytes of a leg that are written at once.
 const OUT: usize = 16384;
 
+// The bytes of `(total (samples `.
+const OPENING: usize = 16;
+
 // What follows a line: another one, or the end; behind a total only the end.
 const GO: u32 = 0;
 
@@ -25,7 +28,7 @@ const DONE: u32 = 2;
 
 const FAILED: u32 = 3;
 
-// Why a line is refused: it has no form, a sample that no byte has, stands behind the total, has no line feed, or is longer than the buffer.
+// Why a line is refused: it has no form, a sample that no byte has, stands behind the total, has no line feed, is longer than the buffer, or is a total of other samples.
 const NO_LINE: u32 = 4;
 
 const NO_BYTE: u32 = 5;
@@ -35,6 +38,8 @@ const BEHIND: u32 = 6;
 const NO_FEED: u32 = 7;
 
 const LONG: u32 = 8;
+
+const OTHER_TOTAL: u32 = 9;
 
 // The law, and the open files; `leg` is below 0 where the text is only tested.
 struct Files {
@@ -64,8 +69,22 @@ struct Kept {
     good: bool,
 }
 
-// One line, without its line feed, behind one that this follows; its bytes at the front of `bytes`.
-fn read_line(law: u32, next: u32, text: &[u8], bytes: &mut [u8; SAMPLES]) -> Line
+// Whether a text is the total of so many samples.
+fn is_total(text: &[u8], samples: u64) -> bool {
+    let mut digits = [0u8; 20];
+    let k = io::decimal(samples, &mut digits);
+    if text.len() < OPENING {
+        return false;
+    }
+    let number = &text[OPENING..];
+    if number.len() < k {
+        return false;
+    }
+    text::same(&number[0..k], &digits[0..k]) && text::same(&number[k..], b"))")
+}
+
+// One line, without its line feed, behind one that this follows and so many samples; its bytes at the front of `bytes`.
+fn read_line(law: u32, next: u32, samples: u64, text: &[u8], bytes: &mut [u8; SAMPLES]) -> Line
     ensures { λ r. ⌜ r .bytes ≤ 80 ⌝ }
 {
     if next == TOTAL {
@@ -74,9 +93,13 @@ fn read_line(law: u32, next: u32, text: &[u8], bytes: &mut [u8; SAMPLES]) -> Lin
             bytes: 0,
         };
     }
-    if text::starts(text, b"(total ") {
+    if text::starts(text, b"(total (samples ") {
         return Line {
-            next: TOTAL,
+            next: if is_total(text, samples) {
+                TOTAL
+            } else {
+                OTHER_TOTAL
+            },
             bytes: 0,
         };
     }
@@ -193,7 +216,7 @@ fn take(
 {
     let s = p.source;
     let from = s.from;
-    let line = read_line(f.law, p.next, &input[from..end], bytes);
+    let line = read_line(f.law, p.next, p.samples, &input[from..end], bytes);
     let kept = keep_line(f.leg, leg, bytes, line.bytes, p.held, out);
     let left = source::used(s, end + 1 - from);
     Place {
@@ -293,6 +316,12 @@ fn why(line: u32, reason: u32) {
         );
     } else if reason == BEHIND {
         files::say_line(b"g711_leg", line, b"refused (9): a line behind the total");
+    } else if reason == OTHER_TOTAL {
+        files::say_line(
+            b"g711_leg",
+            line,
+            b"refused (9): the total of another number of samples; some may be missing",
+        );
     } else if reason == NO_FEED {
         files::say_line(
             b"g711_leg",

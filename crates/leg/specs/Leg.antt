@@ -18,7 +18,7 @@ leg-line law l = cond (eqb (length l) 0) [] (cond (known law) (pcm-line (map (va
 pub data Answer : Type 0 where
   answer : ℕ → ℕ → List ℕ → Answer
 
--- 16: another law. 9: no line, so there are no samples. 17: a sample is no table value. A refusal leaves the bytes as they were.
+-- 16: another law. 9: no line, or one of no samples. 17: a sample is no table value. A refusal leaves the bytes as they were.
 unfoldable pub back-to : ℕ → List ℤ → List ℕ → Answer
 back-to law l lent =
     cond (known law)

@@ -38,7 +38,7 @@ count l = (length l - 6) / 4
 unfoldable pub is-line : List ℕ → Bool
 is-line l = cond (ltb 80 (count l)) false (same l (pcm-text (digits (count l) l)))
 
--- the samples of a line; none where a text is no line
+-- the samples of a line; none where a text is no line, or one of no samples
 unfoldable pub samples : List ℕ → List ℤ
 samples l = cond (is-line l) (digits (count l) l) []
 

@@ -65,7 +65,7 @@ fn is_printed(text: &[u8], samples: &[i16]) -> bool
 }
 
 // How many samples a line has, without its line feed; they are at the front of `samples`, and those behind them are as they were. 0, and nothing written, where it is no line of 1 to 80
-// samples: a text that is not what is printed of the samples that its digits give.
+// samples: one of no samples, or a text that is not what is printed of the samples that its digits give.
 pub fn read(text: &[u8], samples: &mut [i16; 80]) -> usize
     ensures { λ r. ⌜ Answer.answer r (now (samples .exit)) ≡ read (now (text .entry)) (now (samples .entry)) ⌝ }
 {

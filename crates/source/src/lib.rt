@@ -1,15 +1,18 @@
 // A file that is read through a lent buffer: all its bytes, or the samples of a WAV file. No contract can say what is read; they say that what is at hand is inside of the buffer.
+ghost use mathlib.Core.Path.{_≡_};
 ghost use Prim.Native.Nat.{_-_, _≤_};
 ghost use lib.ListN.{length};
-ghost use Rattle.source.specs.Source.{Inside};
+ghost use Rattle.source.specs.Source.{Inside, raw, used, cut};
 use libc::STDERR_FILENO;
 use wav::Found;
 
 // The bytes of a buffer, in which the header of a WAV file must be.
 pub const ROOM: usize = 65536;
 
-// More bytes than a file has.
+// More bytes than a file has, and than a WAV file can say that it has.
 const ALL: u64 = 18446744073709551615;
+
+const LONGEST: u64 = 4294967296;
 
 // The place of the first byte in the buffer that is not used and the one behind the last, whether the file has ended, whether it could be read, and how many bytes of it may still be read.
 pub struct Source {
@@ -22,14 +25,14 @@ pub struct Source {
 
 // A file before its first read.
 pub fn unread() -> Source
-    ensures { λ r. ⌜ Inside r 0 ⌝ }
+    ensures { λ r. ⌜ (r ≡ raw 0) × Inside r 0 ⌝ }
 {
     raw(0)
 }
 
 // A file of which n bytes are at hand.
 pub fn raw(n: usize) -> Source
-    ensures { λ r. ⌜ Inside r n ⌝ }
+    ensures { λ r. ⌜ (r ≡ raw n) × Inside r n ⌝ }
 {
     Source {
         from: 0,
@@ -90,7 +93,7 @@ pub fn fill(fd: i32, name: &[u8], s: Source, input: &mut [u8]) -> Source
 // The same file, with more bytes used.
 pub fn used(s: Source, bytes: usize) -> Source
     requires { ⌜ (s .from ≤ s .to) × (bytes ≤ s .to - s .from) ⌝ }
-    ensures { λ r. ⌜ Inside r (s .to) ⌝ }
+    ensures { λ r. ⌜ (r ≡ used s bytes) × Inside r (s .to) ⌝ }
 {
     Source {
         from: s.from + bytes,
@@ -99,6 +102,13 @@ pub fn used(s: Source, bytes: usize) -> Source
         good: s.good,
         left: s.left,
     }
+}
+
+// Whether a file that has ended is shorter than it says: of one whose length isn't known nearly all that a file could have is left.
+pub fn cut(s: Source) -> bool
+    ensures { λ r. ⌜ r ≡ cut s ⌝ }
+{
+    (0 < s.left) & (s.left < LONGEST)
 }
 
 // What is at hand of a WAV file behind its header. One whose length was not known when it was begun says 0, and goes to its end.
@@ -137,7 +147,7 @@ fn why(name: &[u8], code: u32, wanted: &[u8]) {
     } else if code == wav::NO_DATA {
         files::say(
             name,
-            b"no chunk `data` in the first 65,536 bytes of this WAV file",
+            b"no chunk `data` in the first 65,536 bytes of this WAV file, or behind more than 64 others",
         );
     } else if code == wav::NO_FORMAT {
         files::say(name, b"no chunk `fmt ` before the samples of this WAV file");

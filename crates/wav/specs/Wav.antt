@@ -35,7 +35,7 @@ next l p =
     (cond (named (ascii "data") l (p .at)) p
     (record { at = to; format = cond (named (ascii "fmt ") l (p .at)) (p .at + 8) (p .format) }))
 
--- the chunk of the samples, or where none follows: 64 are looked at, and the first is behind `RIFF`, a length and `WAVE`
+-- the chunk of the samples, or where none follows: at most 64 others are passed, and the first is behind `RIFF`, which the caller has seen, a length and `WAVE`
 unfoldable pub last : List ℕ → Place
 last l = steps (λ (k : ℕ) (p : Place). next l p) 64 (record { at = 12; format = 0 })
 

@@ -33,7 +33,7 @@ pub const NOT_8000: u32 = 6;
 
 pub const OTHER_BITS: u32 = 7;
 
-// How many chunks are looked at.
+// How many chunks are passed at most.
 const CHUNKS: u32 = 64;
 
 // What is found in a file: 0, the place of the first sample, and how many bytes the samples have; or why they can't be taken.
@@ -176,7 +176,7 @@ fn samples(bytes: &[u8], p: Place, tag: u32, bits: u32) -> Found
     }
 }
 
-// Where the samples of a WAV file are, whose first bytes these are, or why they can't be taken: they must have this format tag and so many bits each, be of one channel and 8,000 a second.
+// Where the samples of a WAV file are, whose first bytes these are, `RIFF` in front, or why they can't be taken: they must have this format tag and so many bits each, be of one channel and 8,000 a second.
 pub fn look(bytes: &[u8], tag: u32, bits: u32) -> Found
     ensures { λ r. ⌜ (r ≡ look (now (bytes .entry)) tag bits) × (r .from ≤ length (now (bytes .entry))) ⌝ }
 {

@@ -19,8 +19,8 @@ decided-requires c κs =
     let u = c .before .before .before in
     let v = u .before .before in
     let s = c .before .before .before .before .before .before .before .before .before .before .before .before .before .before .before .before .before .before .before .before in
-    let a = v .used .ensures in
-    let b = u .used2 .ensures in
+    let a = v .used .ensures .1 in
+    let b = u .used2 .ensures .1 in
     (record { order = a .order; end = omega (arith, a .end, s .pre .call .end, s .good) }, record { order = b .order; end = omega (arith, b .end, s .pre .far .end, s .good) })
 
 pub turn-spec : {M : Type 1} → statement M

@@ -2,12 +2,12 @@
 use mathlib.Core.Path.{_∙_}
 use mir.Facts.{toZ-ofZ}
 use borrow.Author.Needs.{needs}
-use Rattle.g711.specs.Fast.{guess}
+use Rattle.g711.specs.Fast.{found-byte}
 use Rattle.g711.proofs.byte.Statement.{statement}
 use Rattle.g711.proofs.byte.Tie as tie
 
 returns : tie.Need-returns
-unfolding guess
+unfolding found-byte
 returns c =
     let b = c .before in
     let s = b .before in
