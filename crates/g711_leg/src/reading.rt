@@ -147,7 +147,7 @@ fn convert(law: u32, fd: i32, name: &[u8], start: Source, input: &mut [u8; ROOM]
         if source::cut(p.source) {
             files::say(
                 name,
-                b"a WAV file that ends before its samples do; it was cut",
+                b"a WAV file of fewer samples than it says: it was cut, or its length was not known when it was written",
             );
         }
         tell(b"(total (samples ", p.samples);
