@@ -38,24 +38,32 @@ fn kept(samples: &[i16; MOST]) -> bool {
     kept
 }
 
+// Puts leg k of a call to its place.
+fn put_leg(held: &[i16; HELD], line: &[i16], k: usize, samples: &mut [i16; MOST])
+    requires { ⌜ k ≤ 10 ⌝ }
+{
+    let mut leg = [0i16; FRAME];
+    let number = part::number(line, LEGS_AT + k) as usize;
+    part::fill(held, FRAME * number, &mut leg);
+    block::put(samples, FRAME * k, &leg);
+}
+
 // The samples of the ten legs of a call, one after another.
 fn lent(held: &[i16; HELD], line: &[i16]) -> [i16; MOST] {
     let mut samples = [0i16; MOST];
     let mut k = 0;
     while k < 10 {
-        let leg = part::number(line, LEGS_AT + k) as usize;
-        let at = FRAME * k;
-        part::fill(held, FRAME * leg, &mut samples[at..at + FRAME]);
+        put_leg(held, line, k, &mut samples);
         k += 1;
     }
     samples
 }
 
-// The check sum of samples, two bytes each, low byte first.
-fn check_sum(samples: &[i16]) -> u32 {
+// The check sum of the first m samples, two bytes each, low byte first.
+fn check_sum(samples: &[i16; MOST], m: usize) -> u32 {
     let mut bytes = [0u8; 1600];
     words::to_bytes(samples, &mut bytes);
-    let n = words::lesser(samples.len(), MOST);
+    let n = words::lesser(m, MOST);
     crc32::crc32(&bytes[0..2 * n])
 }
 
@@ -64,20 +72,16 @@ fn heard_due(line: &[i16]) -> u32 {
     65536 * (part::number(line, 3) as u32) + part::number(line, 4) as u32
 }
 
-// Compares what a call gave: its code, and what is heard, or that nothing was written where the code that is due is a refusal. Gives whether any differs.
-fn differs(line: &[i16], code: u32, room: &[i16; MOST], m: usize, tally: &mut [u32; 64]) -> bool
-    requires { ⌜ m ≤ 800 ⌝ }
-{
+// Compares what a call gave: its code, and the check sum of what is heard, or that nothing was written where the code that is due is a refusal. Gives whether any differs.
+fn differs(line: &[i16], code: u32, sum: u32, written: bool, tally: &mut [u32; 64]) -> bool {
     let due = part::number(line, 2) as u32;
     let other = code != due;
     tally::count(tally, rows::CODE, other);
     if due == 0 {
-        let sum = check_sum(&room[0..m]);
         let unlike = sum != heard_due(line);
         tally::count(tally, rows::HEARD, unlike);
         return other || unlike;
     }
-    let written = !kept(room);
     tally::count(tally, rows::KEPT, written);
     other || written
 }
@@ -89,7 +93,8 @@ fn replay(held: &[i16; HELD], line: &[i16], tally: &mut [u32; 64]) {
     let m = words::lesser(part::number(line, 1) as usize, MOST);
     let mut room = [BEFORE; MOST];
     let code = mix::mix(&samples[0..n], &mut room[0..m]);
-    if differs(line, code, &room, m, tally) {
+    let sum = check_sum(&room, m);
+    if differs(line, code, sum, !kept(&room), tally) {
         stream::print_one(b"seen as wrong: row ", tally::compared(tally, rows::CODE));
     }
 }
@@ -99,7 +104,7 @@ fn leg_line(held: &mut [i16; HELD]) -> bool {
     let mut line = [0i16; 81];
     let whole = stream::read_words(&mut text, &mut line);
     let at = FRAME * words::lesser(part::number(&line, 0) as usize, 63);
-    part::fill(&line, 1, &mut held[at..at + FRAME]);
+    block::put(held, at, &line[1..]);
     whole
 }
 
