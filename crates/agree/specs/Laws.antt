@@ -10,7 +10,7 @@ use lib.ListN.{length}
 use lib.Signed.{ltZ}
 use borrow.Author.Tests.{ltb-true, ltb-false, le-ltb, eqb-true}
 use Rattle.laws.specs.Lists.{at, tab, at-tab}
-use Rattle.laws.specs.Loops.{nowhere-each, nowhere-all}
+use Rattle.laws.specs.Loops.{both, nowhere-each, nowhere-all}
 use Rattle.laws.specs.Ints.{most-both}
 use Rattle.block.specs.Block.{part}
 use Rattle.block.specs.Places.{past-length, tail-length, past-place, tail-place, state-length}
@@ -92,11 +92,6 @@ pub record SameParams (p q : Params) : Type 0 where
   pub gp : p .gain .gp ≡ q .gain .gp
   pub gc : p .gain .gc ≡ q .gain .gc
   pub beta : p .beta ≡ q .beta
-
-both : (x y : Bool) → x && y ≡ true → (x ≡ true) × (y ≡ true)
-both true true h = (refl, refl)
-both true false h = absurd (true≢false (sym h))
-both false y h = absurd (true≢false (sym h))
 
 pub parameters-equal : (a b : List ℤ) → same-parameters a b ≡ true → SameParams (read-params a) (read-params b)
 unfolding same-parameters read-params
