@@ -14,7 +14,7 @@ use borrow.Author.Tests.{eq-eqb, ne-eqb, le-leb, eqb-true, eqb-false, leb-true}
 use mir.Syntax.{w16, w32}
 use mir.Val.{SFits}
 use Rattle.laws.specs.Lists.{at, tab, at-zeros, length-tab, at-tab, tab-same, upto, length-upto, map-upto}
-use Rattle.laws.specs.Loops.{both}
+use Rattle.laws.specs.Loops.{both-hold}
 use Rattle.laws.specs.Range.{mag-abs, mag-add, mag-sub}
 use Rattle.laws.specs.Sums.{abs-add}
 use Rattle.basic_op.specs.Ops.{sat16}
@@ -229,8 +229,8 @@ pub record Whole (n : ℕ) : Type 0 where
 pub whole-is : (n : ℕ) → whole n ≡ true → Whole n
 unfolding whole
 whole-is n e =
-    let p = both (eqb (n % 80) 0 && leb 80 n) (leb n 640) e in
-    let q = both (eqb (n % 80) 0) (leb 80 n) (p .0) in
+    let p = both-hold (eqb (n % 80) 0 && leb 80 n) (leb n 640) e in
+    let q = both-hold (eqb (n % 80) 0) (leb 80 n) (p .0) in
     record { rest = eqb-true (n % 80) 0 (q .0); least = leb-true 80 n (q .1); most = leb-true n 640 (p .1) }
 
 pub whole-taken : (n : ℕ) → Whole n → refusal n n ≡ 0
