@@ -207,12 +207,13 @@ pub heard-turn : (l t d out r : List ℤ) (k p : ℕ) → k < length l / 80 → 
     → r ≡ paste out p (tab 80 (λ i. sat16 (at t i -ℤ at l (p + i)))) 80 → Heard l d (k + 1) r
 heard-turn l t d out r k p h q e w g =
     let n : k < length (legs-of l) = omega (arith, length-legs l) in
-    let m : getD (mix (legs-of l)) k [] ≡ heard (legs-of l) k = mix-at (legs-of l) k n in
-    let z : 80 * k + 80 ≡ 80 * (k + 1) = omega arith in
+    let own : List ℤ = heard (legs-of l) k in
+    let before : List ℤ = joined (take k (mix (legs-of l))) in
+    let place : 80 * k + 80 ≡ 80 * (k + 1) = omega arith in
+    let more : before ++ own ≡ joined (take (k + 1) (mix (legs-of l))) =
+    ap (λ (x : List ℤ). before ++ x) (sym (mix-at (legs-of l) k n)) ∙ sym (joined-more k (mix (legs-of l)) (omega (arith, length-mix (legs-of l)))) ∙ ap (λ (j : ℕ). joined (take j (mix (legs-of l)))) (sym (add-one k)) in
     g ∙ rw (q, w, less-heard l t k h e)
-    (paste-behind (joined (take k (mix (legs-of l)))) (heard (legs-of l) k) d (80 * k) (length-results (legs-of l) k (omega arith)) (length-heard (legs-of l) k)
-    ∙ ap (λ (j : ℕ). joined (take k (mix (legs-of l))) ++ heard (legs-of l) k ++ drop j d) z
-    ∙ ap (λ (x : List ℤ). x ++ drop (80 * (k + 1)) d) (ap (λ (x : List ℤ). joined (take k (mix (legs-of l))) ++ x) (sym m) ∙ sym (joined-more k (mix (legs-of l)) (omega (arith, length-mix (legs-of l)))) ∙ ap (λ (j : ℕ). joined (take j (mix (legs-of l)))) (sym (add-one k))))
+    (paste-behind before own d (80 * k) (length-results (legs-of l) k (omega arith)) (length-heard (legs-of l) k) ∙ ap (λ (j : ℕ). before ++ own ++ drop j d) place ∙ ap (λ (x : List ℤ). x ++ drop (80 * (k + 1)) d) more)
 
 pub heard-end : (l d out : List ℤ) (k : ℕ) → k ≡ length l / 80 → length l % 80 ≡ 0 → length d ≡ length l → Heard l d k out → out ≡ joined (mix (legs-of l))
 heard-end l d out k h z b w =
