@@ -2,7 +2,7 @@
 use mathlib.Core.List.{List, [], _∷_}
 use Prim.Native.Nat.{ℕ, zero, suc, _≤_, _<_}
 use native.Mathlib.Omega.{arith}
-use lib.ListN.{length, getD, set}
+use lib.ListN.{getD, set, replicate}
 use Rattle.source.specs.Source.{Inside}
 use Rattle.conference_files.specs.declared.Place.{Place}
 use Rattle.conference_files.specs.declared.inputs.Leg.{Leg}
@@ -12,19 +12,28 @@ pub record Held (p : Place) : Type 0 where
   pub frames : p .frames ≤ 26843545
   pub held : p .held < 100
 
--- every leg of a list
-pub data All : List Leg → Type 0 where
-  none : All []
-  one : {l : Leg} {all : List Leg} → Inside (l .source) 65536 → All all → All (l ∷ all)
+-- n legs, each inside
+pub data Legs : ℕ → List Leg → Type 0 where
+  none : Legs 0 []
+  one : {n : ℕ} {l : Leg} {all : List Leg} → Inside (l .source) 65536 → Legs n all → Legs (suc n) (l ∷ all)
+
+-- all eight
+abbrev pub All : List Leg → Type 0
+All all = Legs 8 all
+
+-- the same leg n times
+pub alike : (n : ℕ) (l : Leg) → Inside (l .source) 65536 → Legs n (replicate n l)
+alike zero l i = none
+alike (suc n) l i = one i (alike n l i)
 
 -- leg k of them
-pub leg : {all : List Leg} (k : ℕ) (other : Leg) → All all → k < length all → Inside (getD all k other .source) 65536
+pub leg : {n : ℕ} {all : List Leg} (k : ℕ) (other : Leg) → Legs n all → k < n → Inside (getD all k other .source) 65536
 leg k other none h = absurd (omega arith)
 leg zero other (one i a) h = i
 leg (suc k) other (one i a) h = leg k other a (omega arith)
 
 -- and with another leg in its place
-pub with-leg : {all : List Leg} (k : ℕ) {l : Leg} → All all → Inside (l .source) 65536 → All (set all k l)
-with-leg k none i = none
-with-leg zero (one j a) i = one i a
-with-leg (suc k) (one j a) i = one j (with-leg k a i)
+pub with-leg : {n : ℕ} {all : List Leg} (k : ℕ) (l : Leg) → Legs n all → Inside (l .source) 65536 → Legs n (set all k l)
+with-leg k l none i = none
+with-leg zero l (one j a) i = one i a
+with-leg (suc k) l (one j a) i = one j (with-leg k l a i)

@@ -93,8 +93,8 @@ fn hold(k: usize, behind: usize, heard: &[i16], held: &mut [u8])
 }
 
 // What the first n legs heard in a frame.
-fn hold_all(n: usize, behind: usize, heard: &[i16], held: &mut [u8])
-    requires { ⌜ ((n ≤ 8) × (behind < 100)) × ((length (now heard) ≡ 640) × (length (now held) ≡ 128000)) ⌝ }
+fn hold_all(n: usize, behind: usize, heard: &[i16; SAMPLES], held: &mut [u8])
+    requires { ⌜ ((n ≤ 8) × (behind < 100)) × (length (now held) ≡ 128000) ⌝ }
 {
     let mut k = 0;
     while k < n {

@@ -55,7 +55,7 @@ pub(crate) struct Leg {
 
 // A leg of this form, with what is at hand of it. One that is not good is refused.
 fn begun(form: u32, source: Source) -> Leg
-    ensures { λ r. ⌜ r .source ≡ source ⌝ }
+    ensures { λ r. ⌜ (r .source .from ≡ source .from) × (r .source .to ≡ source .to) ⌝ }
 {
     Leg {
         form,
@@ -69,7 +69,7 @@ fn begun(form: u32, source: Source) -> Leg
 
 // The same leg, of which this may follow.
 fn with_next(l: Leg, next: u32, more: bool) -> Leg
-    ensures { λ r. ⌜ r .source ≡ l .source ⌝ }
+    ensures { λ r. ⌜ (r .source .from ≡ l .source .from) × (r .source .to ≡ l .source .to) ⌝ }
 {
     let source = l.source;
     Leg {
@@ -84,7 +84,7 @@ fn with_next(l: Leg, next: u32, more: bool) -> Leg
 
 // The same leg, with other bytes at hand.
 fn with_source(l: Leg, source: Source, next: u32, more: bool) -> Leg
-    ensures { λ r. ⌜ r .source ≡ source ⌝ }
+    ensures { λ r. ⌜ (r .source .from ≡ source .from) × (r .source .to ≡ source .to) ⌝ }
 {
     Leg {
         form: l.form,
@@ -254,7 +254,7 @@ fn opened(fd: i32, names: &[u8], k: usize, input: &mut [u8]) -> Leg
 }
 
 // The first n legs, open, each with its first bytes in its part of `input`. Those behind one that failed are not opened, and so have failed too.
-pub(crate) fn open(names: &[u8], n: usize, fds: &mut [i32; LEGS], input: &mut [u8]) -> [Leg; LEGS]
+pub(crate) fn begin(names: &[u8], n: usize, fds: &mut [i32; LEGS], input: &mut [u8]) -> [Leg; LEGS]
     requires { ⌜ (n ≤ 8) × (length (now input) ≡ 524288) ⌝ }
     ensures { λ r. ⌜ All r ⌝ }
 {
@@ -413,7 +413,7 @@ fn printed(
 // The end of a leg of bytes or words.
 fn ended(names: &[u8], k: usize, l: Leg) -> Leg
     requires { ⌜ k < 8 ⌝ }
-    ensures { λ r. ⌜ r .source ≡ l .source ⌝ }
+    ensures { λ r. ⌜ (r .source .from ≡ l .source .from) × (r .source .to ≡ l .source .to) ⌝ }
 {
     let s = l.source;
     if source::cut(s) {
@@ -490,6 +490,13 @@ fn turns(
     l
 }
 
+// A frame of leg k, at its place among the samples of all.
+fn put(k: usize, one: &[i16; FRAME], samples: &mut [i16; SAMPLES])
+    requires { ⌜ k < 8 ⌝ }
+{
+    block::put(samples, k * FRAME, one);
+}
+
 // Leg k's next frame, at its place among the samples of all: silence where it has ended.
 fn frame_of(
     fd: i32,
@@ -504,12 +511,12 @@ fn frame_of(
 {
     let mut one = [0i16; FRAME];
     if l.next == DONE {
-        block::put(samples, k * FRAME, &one);
+        put(k, &one, samples);
         return l;
     }
     let from = k * ROOM;
     let l = turns(fd, names, k, l, &mut input[from..from + ROOM], &mut one);
-    block::put(samples, k * FRAME, &one);
+    put(k, &one, samples);
     l
 }
 

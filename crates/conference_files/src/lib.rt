@@ -217,7 +217,7 @@ fn make(names: &[u8], n: usize, fds: &[i32; LEGS], start: [Leg; LEGS], input: &m
 fn open(names: &[u8], n: usize, fds: &mut [i32; LEGS], input: &mut [u8])
     requires { ⌜ (n ≤ 8) × (length (now input) ≡ 524288) ⌝ }
 {
-    let start = inputs::open(names, n, fds, input);
+    let start = inputs::begin(names, n, fds, input);
     if inputs::standing(start, n) != inputs::FAILED {
         make(names, n, fds, start, input);
     }
@@ -235,22 +235,38 @@ fn close(fds: &[i32; LEGS]) {
     }
 }
 
-// `open` on the whole buffers.
+// `open` on the whole buffer.
+fn open_all(names: &[u8], n: usize, fds: &mut [i32; LEGS], input: &mut [u8; INPUT])
+    requires { ⌜ n ≤ 8 ⌝ }
+{
+    open(names, n, fds, input);
+}
+
+// A conference of the first n legs.
 fn conference_of(names: &[u8], n: usize)
     requires { ⌜ n ≤ 8 ⌝ }
 {
     let mut fds = [-1i32; LEGS];
     let mut input = [0u8; INPUT];
-    open(names, n, &mut fds, &mut input);
+    open_all(names, n, &mut fds, &mut input);
     close(&fds);
+}
+
+// Words of another number.
+fn refuse() {
+    files::say(b"conference", b"OUT and 1 to 8 legs are needed");
 }
 
 // Makes a conference. `names` has OUT and 1 to 8 legs, each followed by a zero byte. A leg is printed samples, a WAV file, or `a:` or `mu:` and the name of a file of G.711 bytes. What each heard
 // is OUT-1.wav and so on. Where anything is refused or fails the reason is on standard error, and no file is left.
 pub fn conference(names: &[u8]) {
     let n = paths::count(names);
-    if (n < 2) | (LEGS + 1 < n) {
-        files::say(b"conference", b"OUT and 1 to 8 legs are needed");
+    if n < 2 {
+        refuse();
+        return;
+    }
+    if LEGS + 1 < n {
+        refuse();
         return;
     }
     let out = paths::word(names, 0);

@@ -59,7 +59,7 @@ pub(crate) fn count(names: &[u8]) -> usize {
 // The name of what leg k heard, OUT-1.wav for leg 0, at the front of `name`; answers its length.
 pub(crate) fn heard(names: &[u8], k: usize, name: &mut [u8; PATH_MAX]) -> usize
     requires { ⌜ k < 8 ⌝ }
-    ensures { λ r. ⌜ r ≤ 4096 ⌝ }
+    ensures { λ r. ⌜ r ≤ length (now (name .exit)) ⌝ }
 {
     let out = word(names, 0);
     if LONGEST < out.len() {

@@ -2,7 +2,7 @@
 use mathlib.Core.Path.{_≡_, refl, sym, ap, _∙_}
 use mathlib.Core.Bool.{Bool, true, false, cond}
 use mathlib.Core.List.{List, [], _∷_, _++_, map}
-use Prim.Native.Nat.{ℕ, zero, suc, _+_, _-_, _*_, _/_, _≤_, _<_, min}
+use Prim.Native.Nat.{ℕ, zero, suc, _+_, _-_, _*_, _/_, _%_, _≤_, _<_, min}
 use native.Mathlib.Numerals.{add-one}
 use native.Mathlib.Omega.{arith}
 use lib.Dec.{eqb, ltb}
@@ -11,21 +11,15 @@ use lib.ListN.{length, take, drop, getD, length-take, length-drop, drop-of-lengt
 use lib.Seq.{take-all, take-append-seam, drop-cons, length-take-le}
 use borrow.Author.Tests.{eq-eqb, ne-eqb, ltb-true, ltb-false}
 use Rattle.laws.specs.Bytes.{same, same-true}
-use Rattle.text.specs.Text.{starts, Put}
+use Rattle.text.specs.Text.{ascii, starts, Put}
 use Rattle.print.specs.Print.{over}
 use Rattle.print.specs.Laws.{front}
 use Rattle.g711.specs.G711.{known, value, read, refusal, read-call}
-use Rattle.leg_frame.specs.LegFrame.{law, taken, is-figure, leading}
+use Rattle.pcm_line.specs.PcmLine as PcmLine
+use Rattle.pcm_line.specs.Laws.{samples-few}
+use Rattle.leg_frame.specs.LegFrame.{silence, taken, is-figure, leading, closes, opening, of-frames, is-total, answer, line}
 
 -- ---- bytes
-
-pub law-known : (f : ℕ) → known (law f) ≡ true
-unfolding law known
-law-known f = by (eqb f 1)
-  where
-    by : (p : Bool) → known (cond p 1 2) ≡ true
-    by true = refl
-    by false = refl
 
 -- as many bytes as there are, at most 80, are the first 80
 first : (l : List ℕ) (n : ℕ) → n ≡ min (length l) 80 → take n l ≡ take 80 l
@@ -90,3 +84,42 @@ put-text {s} {lent} {out} {r} p =
 pub starts-fits : (s l : List ℕ) → starts s l ≡ true → length s ≤ length l
 unfolding starts
 starts-fits s l e = omega (arith, ap length (same-true (take (length s) l) s e), length-take (length s) l)
+
+-- ---- the total of frames, whose opening was put at the front of lent bytes
+
+module _ (n : ℕ) (l : List ℕ) {b : ℕ} {lent out : List ℕ} (p : Put (opening n) 0 lent b out) {r : Bool} (e : r ≡ starts (take (b - 0) out) l) where
+  begins : starts (opening n) l ≡ r
+  begins = rw (put-text p) at (sym e)
+
+  many : b ≡ length (opening n)
+  many = front p .0
+
+  pub no-frames : n % 80 ≡ 0 → r ≡ false → false ≡ of-frames n l
+  unfolding of-frames
+  no-frames z f = rw (eq-eqb (n % 80) 0 z, begins, f)
+
+  pub opening-fits : r ≡ true → b ≤ length l
+  opening-fits f = omega (arith, many, starts-fits (opening n) l (begins ∙ f))
+
+  pub frames : n % 80 ≡ 0 → r ≡ true → {v : Bool} → v ≡ closes (take (length l - b) (drop b l)) → v ≡ of-frames n l
+  unfolding of-frames
+  frames z f g = rw (eq-eqb (n % 80) 0 z, begins, f, ← many) (g ∙ rw (behind l b))
+
+-- ---- a line
+
+module _ (n : ℕ) (l : List ℕ) {w m : ℕ} where
+  pub line-total : {t : Bool} → t ≡ is-total n l → starts (ascii "(total ") l ≡ true → w ≡ cond t 1 3 → m ≡ 0 → answer w m silence ≡ line n l
+  unfolding line
+  line-total e f g h = rw (f, ← e, g, h)
+
+  pub line-refused : starts (ascii "(total ") l ≡ false → starts (ascii "(refused ") l ≡ true → w ≡ 4 → m ≡ 0 → answer w m silence ≡ line n l
+  unfolding line
+  line-refused f e g h = rw (f, e, g, h)
+
+  module _ (f : starts (ascii "(total ") l ≡ false) (e : starts (ascii "(refused ") l ≡ false) {k : ℕ} {out : List ℤ} (a : PcmLine.answer k out ≡ PcmLine.read l silence) where
+    pub read-line : w ≡ cond (eqb k 0) 2 0 → m ≡ k → (answer w m out ≡ line n l) × (m ≤ 80)
+    unfolding line PcmLine.read
+    read-line g h =
+        let x : k ≡ length (PcmLine.samples l) = cc in
+        let y : out ≡ PcmLine.samples l ++ drop (length (PcmLine.samples l)) silence = cc in
+        (rw (f, e, ← x, g, h) (ap (λ (s : List ℤ). answer (cond (eqb k 0) 2 0) k s) (y ∙ rw x)), omega (arith, samples-few l))

@@ -70,10 +70,10 @@ is-total n l = cond (same l (of-samples n)) true (of-frames n l)
 pub data Answer : Type 0 where
   answer : ℕ → ℕ → List ℤ → Answer
 
--- 0 samples, 1 the total of so many samples, 2 neither, 3 the total of another number, 4 a refused call
+-- 0 samples, 1 the total of so many samples, 2 neither, 3 the total of another number, 4 a refused call; where there are no samples the frame is silence
 unfoldable pub line : ℕ → List ℕ → Answer
 line n l =
     let many : ℕ = length (PcmLine.samples l) in
     cond (starts (ascii "(total ") l) (answer (cond (is-total n l) 1 3) 0 silence)
     (cond (starts (ascii "(refused ") l) (answer 4 0 silence)
-    (cond (eqb many 0) (answer 2 0 silence) (answer 0 many (PcmLine.samples l ++ drop many silence))))
+    (answer (cond (eqb many 0) 2 0) many (PcmLine.samples l ++ drop many silence)))

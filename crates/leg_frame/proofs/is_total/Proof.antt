@@ -1,26 +1,17 @@
+-- `leg_frame::is_total` meets its contract.
+use mathlib.Core.Path.{sym, _∙_}
 use borrow.Author.Needs.{needs}
+use Rattle.leg_frame.specs.LegFrame.{is-total}
 use Rattle.leg_frame.proofs.is_total.Statement.{statement}
 use Rattle.leg_frame.proofs.is_total.Tie as tie
-use Rattle.leg_frame.proofs.is_total.Reads as reads
-use Rattle.leg_frame.proofs.is_total.Lts as lts
-use Rattle.leg_frame.proofs.of_frames.Reads as of-frames-reads
-use Rattle.leg_frame.proofs.of_samples.Reads as of-samples-reads
 
--- src/lib.rt:173:8
-of-samples-requires : tie.Need-of-samples-requires
-of-samples-requires c κs = search needs
-
--- src/lib.rt:174:9
 returns : tie.Need-returns
-returns c = ?
+unfolding is-total
+returns c = rw (sym (c .before .of-samples .ensures) ∙ c .if1 .taken)
 
--- src/lib.rt:176:5
-of-frames-requires : tie.Need-of-frames-requires
-of-frames-requires c κs = search needs
-
--- src/lib.rt:170:1
 returns-2 : tie.Need-returns-2
-returns-2 c = ?
+unfolding is-total
+returns-2 c = let i = c .before in rw (sym (i .before .of-samples .ensures) ∙ i .if1 .left) (c .of-frames .ensures)
 
 pub is-total-spec : {M : Type 1} → statement M
-is-total-spec = tie.close (tie.spec of-samples-requires returns of-frames-requires returns-2)
+is-total-spec = tie.close (tie.spec (λ c κs. search needs) returns (λ c κs. search needs) returns-2)

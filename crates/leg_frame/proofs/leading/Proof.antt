@@ -1,5 +1,5 @@
 -- `leg_frame::leading` meets its contract: before turn i the first i bytes are digits.
-use mathlib.Core.Path.{_≡_, refl, ap, sym, _∙_}
+use mathlib.Core.Path.{_≡_, sym, _∙_}
 use Prim.Native.Nat.{_+_, _-_, _≤_}
 use native.Mathlib.Nat.{zero-add}
 use native.Mathlib.Omega.{arith}
@@ -21,13 +21,24 @@ loop-holds : tie.Need-loop-holds Inv-loop μ-loop
 loop-holds c = (search needs, sym (zero-add _))
 
 returns : tie.Need-returns Inv-loop μ-loop
-returns c = ?
+returns c =
+    let q = c .before in
+    let l = q .before .before .before in
+    let t = l .before .before .args .text .now in
+    (omega (arith, leading-stops t (l .loop .i) (omega arith) (sym (q .is-figure .ensures) ∙ not-true _ (c .if1 .taken))), omega arith)
 
 loop-again : tie.Need-loop-again Inv-loop μ-loop
-loop-again c = ?
+loop-again c =
+    let q = c .before in
+    let l = q .before .before .before in
+    let t = l .before .before .args .text .now in
+    (omega arith, omega (arith, leading-goes t (l .loop .i) (omega arith) (sym (q .is-figure .ensures) ∙ not-false _ (c .if1 .left))))
 
 returns-2 : tie.Need-returns-2 Inv-loop μ-loop
-returns-2 c = ?
+returns-2 c =
+    let l = c .before in
+    let t = l .before .before .args .text .now in
+    (omega (arith, leading-ends t (l .loop .i) (omega arith)), omega arith)
 
 pub leading-spec : {M : Type 1} → statement M
 leading-spec =

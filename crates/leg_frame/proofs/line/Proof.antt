@@ -1,89 +1,59 @@
+-- `leg_frame::line` meets its contract: each test picks its case of the definition.
+use mathlib.Core.Path.{refl, sym, _∙_}
+use native.Mathlib.Omega.{arith}
 use borrow.Author.Needs.{needs}
+use borrow.Author.Tests.{eq-eqb, ne-eqb}
+use Rattle.leg_frame.specs.Laws.{line-total, line-refused, read-line}
 use Rattle.leg_frame.proofs.line.Statement.{statement}
 use Rattle.leg_frame.proofs.line.Tie as tie
-use Rattle.leg_frame.proofs.line.Reads as reads
-use Rattle.leg_frame.proofs.line.Lts as lts
-use Rattle.leg_frame.proofs.is_total.Reads as is-total-reads
-use Rattle.leg_frame.proofs.no_samples.Reads as no-samples-reads
-use Rattle.pcm_line.proofs.read.Reads as read-reads
-use Rattle.text.proofs.starts.Reads as starts-reads
 
--- src/lib.rt:191:21
-slice-aggregate-starts : tie.Need-slice-aggregate-starts
-slice-aggregate-starts c = search needs
-
--- src/lib.rt:191:8
-starts-requires : tie.Need-starts-requires
-starts-requires c κs = search needs
-
--- src/lib.rt:192:12
-is-total-requires : tie.Need-is-total-requires
-is-total-requires c κs = search needs
-
--- src/lib.rt:193:13
-no-samples-requires : tie.Need-no-samples-requires
-no-samples-requires c κs = search needs
-
--- src/lib.rt:193:13
 returns : tie.Need-returns
-returns c = ?
+returns c =
+    let i = c .before in
+    let t = i .before in
+    let o = t .before in
+    let s = o .before .before .before .before .before .args in
+    (line-total (s .before) (s .text .now) (t .is-total .ensures) (sym (o .before .starts .ensures) ∙ o .if1 .taken) (rw (i .if2 .taken) (c .no-samples .ensures .0)) (c .no-samples .ensures .1),
+     omega (arith, c .no-samples .ensures .1))
 
--- src/lib.rt:195:9
-no-samples-requires-2 : tie.Need-no-samples-requires-2
-no-samples-requires-2 c κs = search needs
-
--- src/lib.rt:195:9
 returns-2 : tie.Need-returns-2
-returns-2 c = ?
+returns-2 c =
+    let i = c .before in
+    let t = i .before in
+    let o = t .before in
+    let s = o .before .before .before .before .before .args in
+    (line-total (s .before) (s .text .now) (t .is-total .ensures) (sym (o .before .starts .ensures) ∙ o .if1 .taken) (rw (i .if2 .left) (c .no-samples2 .ensures .0)) (c .no-samples2 .ensures .1),
+     omega (arith, c .no-samples2 .ensures .1))
 
--- src/lib.rt:197:21
-slice-aggregate-starts-2 : tie.Need-slice-aggregate-starts-2
-slice-aggregate-starts-2 c = search needs
-
--- src/lib.rt:197:8
-starts-requires-2 : tie.Need-starts-requires-2
-starts-requires-2 c κs = search needs
-
--- src/lib.rt:198:9
-no-samples-requires-3 : tie.Need-no-samples-requires-3
-no-samples-requires-3 c κs = search needs
-
--- src/lib.rt:198:9
 returns-3 : tie.Need-returns-3
-returns-3 c = ?
+returns-3 c =
+    let i = c .before in
+    let o = i .before .before .before in
+    let s = o .before .before .before .before .before .args in
+    (line-refused (s .before) (s .text .now) (sym (o .before .starts .ensures) ∙ o .if1 .left) (sym (i .before .starts2 .ensures) ∙ i .if3 .taken) (c .no-samples3 .ensures .0) (c .no-samples3 .ensures .1),
+     omega (arith, c .no-samples3 .ensures .1))
 
--- src/lib.rt:200:9
-read-requires : tie.Need-read-requires
-read-requires c κs = search needs
-
--- src/lib.rt:202:9
-no-samples-requires-4 : tie.Need-no-samples-requires-4
-no-samples-requires-4 c κs = search needs
-
--- src/lib.rt:202:9
 returns-4 : tie.Need-returns-4
-returns-4 c = ?
+returns-4 c =
+    let z = c .before in
+    let r = z .before in
+    let i = r .before .before in
+    let o = i .before .before .before in
+    let s = o .before .before .before .before .before .args in
+    read-line (s .before) (s .text .now) (sym (o .before .starts .ensures) ∙ o .if1 .left) (sym (i .before .starts2 .ensures) ∙ i .if3 .left) (r .read .ensures)
+    (rw (eq-eqb (r .read .result) 0 (z .if4 .taken)) (c .no-samples4 .ensures .0)) (c .no-samples4 .ensures .1 ∙ sym (z .if4 .taken))
 
--- src/lib.rt:187:1
 returns-5 : tie.Need-returns-5
-returns-5 c = ?
+returns-5 c =
+    let r = c .before in
+    let i = r .before .before in
+    let o = i .before .before .before in
+    let s = o .before .before .before .before .before .args in
+    read-line (s .before) (s .text .now) (sym (o .before .starts .ensures) ∙ o .if1 .left) (sym (i .before .starts2 .ensures) ∙ i .if3 .left) (r .read .ensures)
+    (rw (ne-eqb (r .read .result) 0 (c .if4 .left))) refl
 
 pub line-spec : {M : Type 1} → statement M
 line-spec =
     tie.close
-    (tie.spec
-    slice-aggregate-starts
-    starts-requires
-    is-total-requires
-    no-samples-requires
-    returns
-    no-samples-requires-2
-    returns-2
-    slice-aggregate-starts-2
-    starts-requires-2
-    no-samples-requires-3
-    returns-3
-    read-requires
-    no-samples-requires-4
-    returns-4
-    returns-5)
+    (tie.spec (λ c. search needs) (λ c κs. search needs) (λ c κs. search needs) (λ c κs. search needs) returns (λ c κs. search needs) returns-2
+    (λ c. search needs) (λ c κs. search needs) (λ c κs. search needs) returns-3 (λ c κs. search needs) (λ c κs. search needs) returns-4 returns-5)

@@ -10,8 +10,8 @@ use Rattle.leg_frame.proofs.of_samples.Tie as tie
 returns : tie.Need-returns
 unfolding of-samples
 returns c =
-    let p = c .before .before .before in
-    let f = p .before .before in
+    let p = c .before .before .before .before in
+    let f = p .before .before .before .before in
     c .same .ensures ∙ rw (put-text (then (f .figure .ensures .1) (p .put .ensures)))
 
 pub of-samples-spec : {M : Type 1} → statement M
