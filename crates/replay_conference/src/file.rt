@@ -46,12 +46,12 @@ fn add_all(fd: i32) -> Sum {
 
 // Its length and its CRC-32 in the form of an answer; how many bytes they have.
 fn put(s: Sum, answer: &mut [u8; ROOM]) -> usize
-    ensures { λ r. ⌜ r ≤ 37 ⌝ }
+    ensures { λ r. ⌜ r ≤ length (now (answer .exit)) ⌝ }
 {
     let mut digits = [0u8; 20];
-    let n = io::decimal(s.bytes, &mut digits);
+    let n = words::lesser(io::decimal(s.bytes, &mut digits), 20);
     let mut sum = [0u8; 16];
-    let k = io::hex(s.sum as u64, 8, &mut sum);
+    let k = words::lesser(io::hex(s.sum as u64, 8, &mut sum), 16);
     let a = print::put(&digits[0..n], 0, answer);
     let b = print::put(b" ", a, answer);
     print::put(&sum[0..k], b, answer)

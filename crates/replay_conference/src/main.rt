@@ -29,13 +29,16 @@ fn operands<'a>(line: &'a [u8]) -> &'a [u8] {
     &line[from..]
 }
 
+// A blank as a zero byte, another byte as it is.
+fn apart(b: u8) -> u8 {
+    if b == b' ' { 0 } else { b }
+}
+
 // Blanks become zero bytes.
 fn part(names: &mut [u8]) {
     let mut i = 0;
     while i < names.len() {
-        if names[i] == b' ' {
-            names[i] = 0;
-        }
+        names[i] = apart(names[i]);
         i += 1;
     }
 }
