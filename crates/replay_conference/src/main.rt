@@ -43,14 +43,24 @@ fn part(names: &mut [u8]) {
     }
 }
 
-// A conference of these words; of none where they are too long.
+// These words with zero bytes between and behind them; how many bytes they have, 0 where they are too long.
+fn put(words: &[u8], names: &mut [u8]) -> usize
+    ensures { λ r. ⌜ r ≤ length (now (names .exit)) ⌝ }
+{
+    let n = words.len();
+    if names.len() <= n {
+        return 0;
+    }
+    bytes::copy(words, names);
+    part(&mut names[0..n]);
+    n + 1
+}
+
+// A conference of these words.
 fn conference(words: &[u8]) {
     let mut names = [0u8; ROOM];
-    if words.len() < ROOM {
-        let n = bytes::copy(words, &mut names);
-        part(&mut names[0..n]);
-        conference_files::conference(&names[0..n + 1]);
-    }
+    let n = put(words, &mut names);
+    conference_files::conference(&names[0..n]);
 }
 
 // The step of a line.

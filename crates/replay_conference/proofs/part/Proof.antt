@@ -7,7 +7,7 @@ use Rattle.replay_conference.proofs.part.Statement.{statement}
 use Rattle.replay_conference.proofs.part.Tie as tie
 
 abbrev Inv-loop : tie.InvT-loop
-Inv-loop names₀ i₀ names i = (i ≤ length names) × (length names ≡ length names₀)
+Inv-loop names₀ i₀ names i = (i ≤ length names₀) × (length names ≡ length names₀)
 
 abbrev μ-loop : tie.MeasureT-loop
 μ-loop names₀ i₀ names i = length names₀ - i

@@ -1,9 +1,0 @@
--- `replay_conference::main` is safe.
-use borrow.Author.Needs.{needs}
-use Rattle.replay_conference.proofs.main.Statement.{statement}
-use Rattle.replay_conference.proofs.main.Tie as tie
-
-pub main-spec : {M : Type 1} → statement M
-main-spec =
-    tie.close
-    (tie.spec (λ c κs. search needs) (λ c. search needs) (λ c κs. search needs) (λ c. search needs) (λ c. search needs) (λ c. search needs) (λ c κs. search needs) (λ c. search needs))
