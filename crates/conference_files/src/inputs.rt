@@ -373,7 +373,12 @@ fn take(names: &[u8], k: usize, l: Leg, end: usize, input: &[u8], frame: &mut [i
     let s = l.source;
     let from = s.from;
     let line = leg_frame::line(l.samples, &input[from..end], frame);
-    let next = decided(names, k, l.lines, behind_line(l.next, line.what, line.samples));
+    let next = decided(
+        names,
+        k,
+        l.lines,
+        behind_line(l.next, line.what, line.samples),
+    );
     let left = source::used(s, end + 1 - from);
     Leg {
         form: l.form,
@@ -451,14 +456,7 @@ fn sampled(
 }
 
 // One turn of leg k.
-fn turn(
-    fd: i32,
-    names: &[u8],
-    k: usize,
-    l: Leg,
-    input: &mut [u8],
-    frame: &mut [i16; FRAME],
-) -> Leg
+fn turn(fd: i32, names: &[u8], k: usize, l: Leg, input: &mut [u8], frame: &mut [i16; FRAME]) -> Leg
     requires { ⌜ (k < 8) × Inside (l .source) (length (now input)) ⌝ }
     ensures { λ r. ⌜ Inside (r .source) (length (now (input .entry))) ⌝ }
 {

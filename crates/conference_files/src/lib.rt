@@ -154,7 +154,15 @@ fn run(
         let before = all;
         all = inputs::frames(names, n, fds, before, input, &mut samples);
         let at = p;
-        p = step(names, n, outs, inputs::standing(all, n), at, &samples, &mut held);
+        p = step(
+            names,
+            n,
+            outs,
+            inputs::standing(all, n),
+            at,
+            &samples,
+            &mut held,
+        );
         most = rest(most, p.more);
     }
     p

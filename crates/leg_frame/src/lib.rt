@@ -99,7 +99,7 @@ pub fn samples(form: u32, bytes: &[u8], frame: &mut [i16; 80]) -> usize
     if form == LINEAR {
         return read_words(bytes, frame);
     }
-    *frame = [0; 80];
+    *frame = [0i16; 80];
     expand(law(form), bytes, frame)
 }
 

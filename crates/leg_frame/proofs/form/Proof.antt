@@ -28,8 +28,12 @@ returns-4 c =
     let d = c .before .before .before in
     let b = d .before .before .before in
     let a = b .before .before .before in
-    rw (sym (a .before .starts .ensures) ∙ a .if1 .left, sym (b .before .starts2 .ensures) ∙ b .if2 .left, sym (d .before .starts3 .ensures) ∙ d .if3 .left,
-        sym (c .before .starts4 .ensures) ∙ c .if4 .taken)
+    rw (
+      sym (a .before .starts .ensures) ∙ a .if1 .left,
+      sym (b .before .starts2 .ensures) ∙ b .if2 .left,
+      sym (d .before .starts3 .ensures) ∙ d .if3 .left,
+      sym (c .before .starts4 .ensures) ∙ c .if4 .taken,
+    )
 
 returns-5 : tie.Need-returns-5
 unfolding form
@@ -37,8 +41,12 @@ returns-5 c =
     let d = c .before .before .before in
     let b = d .before .before .before in
     let a = b .before .before .before in
-    rw (sym (a .before .starts .ensures) ∙ a .if1 .left, sym (b .before .starts2 .ensures) ∙ b .if2 .left, sym (d .before .starts3 .ensures) ∙ d .if3 .left,
-        sym (c .before .starts4 .ensures) ∙ c .if4 .left)
+    rw (
+      sym (a .before .starts .ensures) ∙ a .if1 .left,
+      sym (b .before .starts2 .ensures) ∙ b .if2 .left,
+      sym (d .before .starts3 .ensures) ∙ d .if3 .left,
+      sym (c .before .starts4 .ensures) ∙ c .if4 .left,
+    )
 
 pub form-spec : {M : Type 1} → statement M
 form-spec =

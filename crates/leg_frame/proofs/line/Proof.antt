@@ -12,26 +12,29 @@ returns c =
     let i = c .before in
     let t = i .before in
     let o = t .before in
-    let s = o .before .before .before .before .before .args in
-    (line-total (s .before) (s .text .now) (t .is-total .ensures) (sym (o .before .starts .ensures) ∙ o .if1 .taken) (rw (i .if2 .taken) (c .no-samples .ensures .0)) (c .no-samples .ensures .1),
-     omega (arith, c .no-samples .ensures .1))
+    let s = o .before .before .before .before .before .args in (
+      line-total (s .before) (s .text .now) (t .is-total .ensures) (sym (o .before .starts .ensures) ∙ o .if1 .taken) (rw (i .if2 .taken) (c .no-samples .ensures .0)) (c .no-samples .ensures .1),
+      omega (arith, c .no-samples .ensures .1),
+    )
 
 returns-2 : tie.Need-returns-2
 returns-2 c =
     let i = c .before in
     let t = i .before in
     let o = t .before in
-    let s = o .before .before .before .before .before .args in
-    (line-total (s .before) (s .text .now) (t .is-total .ensures) (sym (o .before .starts .ensures) ∙ o .if1 .taken) (rw (i .if2 .left) (c .no-samples2 .ensures .0)) (c .no-samples2 .ensures .1),
-     omega (arith, c .no-samples2 .ensures .1))
+    let s = o .before .before .before .before .before .args in (
+      line-total (s .before) (s .text .now) (t .is-total .ensures) (sym (o .before .starts .ensures) ∙ o .if1 .taken) (rw (i .if2 .left) (c .no-samples2 .ensures .0)) (c .no-samples2 .ensures .1),
+      omega (arith, c .no-samples2 .ensures .1),
+    )
 
 returns-3 : tie.Need-returns-3
 returns-3 c =
     let i = c .before in
     let o = i .before .before .before in
-    let s = o .before .before .before .before .before .args in
-    (line-refused (s .before) (s .text .now) (sym (o .before .starts .ensures) ∙ o .if1 .left) (sym (i .before .starts2 .ensures) ∙ i .if3 .taken) (c .no-samples3 .ensures .0) (c .no-samples3 .ensures .1),
-     omega (arith, c .no-samples3 .ensures .1))
+    let s = o .before .before .before .before .before .args in (
+      line-refused (s .before) (s .text .now) (sym (o .before .starts .ensures) ∙ o .if1 .left) (sym (i .before .starts2 .ensures) ∙ i .if3 .taken) (c .no-samples3 .ensures .0) (c .no-samples3 .ensures .1),
+      omega (arith, c .no-samples3 .ensures .1),
+    )
 
 returns-4 : tie.Need-returns-4
 returns-4 c =
