@@ -1,5 +1,5 @@
-/* Holdamek: the six operations of a G.729 voice path, the writing of lines and of voice frames, the frames of an RTP payload, G.711 legs, the agreement of two
- * decoders and the comparison with a far one, as C functions (x86-64 Linux; C99 or later, C++).
+/* Holdamek: the six operations of a G.729 voice path, the writing of lines and of voice frames, the frames of an RTP payload, G.711 legs, what each leg of a
+ * conference heard, the agreement of two decoders and the comparison with a far one, as C functions (x86-64 Linux; C99 or later, C++).
  * `rt staticlib holdamek` makes target/staticlib/libholdamek.a:  cc -Iinclude program.c target/staticlib/libholdamek.a
  * Installed (`make install`):  cc program.c $(pkg-config --cflags --libs holdamek)
  *
@@ -23,9 +23,9 @@
 #include <stdint.h>
 
 /* The version of header and library; the shared library has the first number in its name. */
-#define HOLDAMEK_VERSION "0.7.0"
+#define HOLDAMEK_VERSION "0.8.0"
 #define HOLDAMEK_VERSION_MAJOR 0
-#define HOLDAMEK_VERSION_MINOR 7
+#define HOLDAMEK_VERSION_MINOR 8
 #define HOLDAMEK_VERSION_PATCH 0
 
 #ifdef __cplusplus
@@ -43,7 +43,8 @@ enum holdamek_size {
     HOLDAMEK_FIELDS_WITHOUT_P0 = 14,  /* fields that are written with P0 supplied */
     HOLDAMEK_SHORTEST_LINE = 14,      /* characters of the shortest line, without its line feed */
     HOLDAMEK_LONGEST_LINE = 36,       /* characters of the longest line, without its line feed */
-    HOLDAMEK_MOST_FRAMES = 360000     /* frames of a call at most */
+    HOLDAMEK_MOST_FRAMES = 360000,    /* frames of a call at most */
+    HOLDAMEK_MOST_LEGS = 8            /* legs of a conference at most */
 };
 
 /* Kinds of frames. 1 to 3 are concealed like losses. */
@@ -108,7 +109,7 @@ enum holdamek_refusal {
     HOLDAMEK_STATE_VALUES = 4,        /* in the state block, or in the memory of a comparison, the predictor isn't 0 or 1, or the delay is outside 19..144 */
     HOLDAMEK_KIND_ABOVE_3 = 5,        /* there is no such kind of frame */
     HOLDAMEK_PAYLOAD_LENGTH = 6,      /* the payload isn't 10, 2, 0, 0 bytes for kinds 0 to 3; for fields and their writing: not ten bytes */
-    HOLDAMEK_OUTPUT_LENGTH = 7,       /* the output isn't 80 words, or there aren't 80 far samples; for the writing of a line: not 36 bytes; for G.711: not as many bytes as samples */
+    HOLDAMEK_OUTPUT_LENGTH = 7,       /* the output isn't 80 words, or there aren't 80 far samples; for the writing of a line: not 36 bytes; for G.711: not as many bytes as samples; for what legs heard: not as many samples as the legs have */
     HOLDAMEK_RECEIVER_LENGTH = 8,     /* the receiver of fields isn't 15 numbers; for the writing of fields: there are not 15, or not 14 without P0 */
     HOLDAMEK_LINE_FORM = 9,           /* the line isn't one of the four forms */
     HOLDAMEK_COUNT_LIMIT = 10,        /* a count is 360,000 or more already */
@@ -117,7 +118,8 @@ enum holdamek_refusal {
     HOLDAMEK_FRAME_INDEX = 13,        /* the index isn't below the number of frames of the RTP payload */
     HOLDAMEK_FIELD_WIDTH = 15,        /* a field exceeds its width */
     HOLDAMEK_OTHER_LAW = 16,          /* the law is neither 1 nor 2 */
-    HOLDAMEK_NO_TABLE_VALUE = 17      /* a sample isn't a table value of the law: no byte is read as it */
+    HOLDAMEK_NO_TABLE_VALUE = 17,     /* a sample isn't a table value of the law: no byte is read as it */
+    HOLDAMEK_LEGS_LENGTH = 19         /* the legs of a conference aren't 80, 160, .. or 640 samples, a frame of each of 1 to 8 legs */
 };
 
 /* How many frames an RTP payload has. */
@@ -180,6 +182,11 @@ uint32_t holdamek_g711_read(uint32_t law, const uint8_t *bytes, size_t bytes_len
 /* Turns samples back into the bytes that are read as these; mu-law 0, which 7F and FF are read as, into FF. So every byte that was read comes back, but for
  * mu-law 7F. No sample is rounded: one that no byte is read as is refused, and no byte is written then. Refusals 16, 7, 17. */
 uint32_t holdamek_g711_write(uint32_t law, const int16_t *samples, size_t samples_length, uint8_t *bytes, size_t bytes_length);
+
+/* Writes what each leg of a conference heard. `legs` has the 80 samples of a frame of each of 1 to 8 legs, one leg after another, whether they come from G.711 or
+ * G.729; `heard`, which doesn't overlap it, gets as many, in the order of the legs: at each place the sum of all other legs' samples, limited to -32768..32767. Only the
+ * whole sum is limited, nothing on the way to it. A leg alone heard 80 zeros, and of two legs each heard the other unchanged. Refusals 19, 7. */
+uint32_t holdamek_mix(const int16_t *legs, size_t legs_length, int16_t *heard, size_t heard_length);
 
 /* Counts a frame: adds 1 to `frames`, and for kinds 1 to 3 to `lost`. Refusals 5, 10. */
 uint32_t holdamek_count(uint32_t kind, uint32_t *frames, uint32_t *lost);

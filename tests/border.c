@@ -890,6 +890,175 @@ static void of_g711(void)
     }
 }
 
+enum { LEG = HOLDAMEK_FRAME_SAMPLES, MOST_MIXED = HOLDAMEK_MOST_LEGS * LEG, MORE_MIXED = MOST_MIXED + LEG };
+
+/* The legs of a conference and what each heard, with a mark before each of the two and one behind. */
+static int16_t legs[1 + MORE_MIXED + 1], legs_before[1 + MORE_MIXED + 1];
+static int16_t heard[1 + MORE_MIXED + 1], heard_before[1 + MORE_MIXED + 1];
+
+static void mark_legs(void)
+{
+    size_t n;
+
+    for (n = 0; n < MORE_MIXED + 2; n++)
+        legs[n] = legs_before[n] = heard[n] = heard_before[n] = MARK;
+}
+
+static int kept_legs(void)
+{
+    return memcmp(legs, legs_before, sizeof legs) == 0 && memcmp(heard, heard_before, sizeof heard) == 0;
+}
+
+/* Whether these lengths are refused with this number, with no memory at all too: none is touched. */
+static int unmixed(size_t l, size_t h, uint32_t due)
+{
+    return holdamek_mix(legs + 1, l, heard + 1, h) == due && holdamek_mix(NULL, l, NULL, h) == due;
+}
+
+/* Every length up to nine legs with every other, and with great ones: the legs come first. */
+static void of_mix_lengths(void)
+{
+    const uint32_t first = HOLDAMEK_LEGS_LENGTH;
+    size_t l, h, k;
+
+    mark_legs();
+    for (l = 0; l <= MORE_MIXED; l++) {
+        int whole = l % LEG == 0 && l >= LEG && l <= MOST_MIXED;
+        uint32_t due = whole ? HOLDAMEK_OUTPUT_LENGTH : HOLDAMEK_LEGS_LENGTH;
+
+        for (h = 0; h <= MORE_MIXED; h++)
+            if (!whole || h != l)
+                check(unmixed(l, h, due), "legs of no 1 to 8 frames, or not as many samples heard, are refused");
+        for (k = 1; k != 0; k *= 2)
+            check(unmixed(l, l + k, due) && unmixed(l, (size_t)-1 - k, due), "a great number of samples heard is refused");
+        for (k = 1024; k != 0; k *= 2)
+            check(unmixed(l + k, l + k, first) && unmixed(l + k, l, first), "legs of a great length are refused first");
+        check(kept_legs(), "a refusal leaves legs and what they heard as they were");
+    }
+    for (l = MORE_MIXED; l <= (size_t)-1 / 2; l *= 2)
+        check(unmixed(l, l, first) && unmixed(l, LEG, first), "more than eight legs are refused first");
+    CHECK(unmixed(0, 0, first) && unmixed(0, LEG, first) && unmixed((size_t)-1, (size_t)-1, first));
+    CHECK((size_t)-16 % LEG == 0 && unmixed((size_t)-16, (size_t)-16, first) && unmixed((size_t)-16, LEG, first));
+    CHECK(unmixed(LEG, 0, HOLDAMEK_OUTPUT_LENGTH) && kept_legs());
+}
+
+/* The sum of what all legs but one have at a place, limited. */
+static int16_t sum_of_others(size_t count, size_t own, size_t place)
+{
+    int sum = 0;
+    size_t n;
+
+    for (n = 0; n < count; n++)
+        if (n != own)
+            sum += legs[1 + n * LEG + place];
+    return (int16_t)(sum > 32767 ? 32767 : sum < -32768 ? -32768 : sum);
+}
+
+/* Whether each of these legs hears the sum of the others, and nothing else is written. */
+static int mixes(size_t count)
+{
+    size_t n, length = count * LEG;
+    int good;
+
+    memcpy(legs_before, legs, sizeof legs);
+    memcpy(heard, heard_before, sizeof heard);
+    good = holdamek_mix(legs + 1, length, heard + 1, length) == HOLDAMEK_OK && memcmp(legs, legs_before, sizeof legs) == 0;
+    for (n = 0; n < MORE_MIXED + 2; n++)
+        good = good && heard[n] == (n >= 1 && n <= length ? sum_of_others(count, (n - 1) / LEG, (n - 1) % LEG) : heard_before[n]);
+    return good;
+}
+
+/* Every number of legs with every choice of samples at the limits and beside zero, a choice at each place: sums that meet the limit, sums one off it, and sums
+ * that pass it on the way alone. */
+static void of_mix_sums(void)
+{
+    static const int16_t ends[4] = {-32768, -1, 1, 32767};
+    size_t count, n, first;
+
+    for (count = 1; count <= HOLDAMEK_MOST_LEGS; count++) {
+        size_t choices = (size_t)1 << 2 * count;
+
+        mark_legs();
+        for (first = 0; first < choices; first += LEG) {
+            for (n = 0; n < count * LEG; n++)
+                legs[1 + n] = ends[(first + n % LEG) >> 2 * (n / LEG) & 3];
+            check(mixes(count), "each leg hears the limited sum of the others");
+        }
+    }
+}
+
+/* Whether leg `own` heard this sample, at every place. */
+static int hears(size_t own, int16_t due)
+{
+    size_t n;
+
+    for (n = 0; n < LEG; n++)
+        if (heard[1 + own * LEG + n] != due)
+            return 0;
+    return 1;
+}
+
+/* Mixes legs of which each has one sample at every place. */
+static int mix_steady(const int16_t *samples, size_t count)
+{
+    size_t n;
+
+    mark_legs();
+    for (n = 0; n < count * LEG; n++)
+        legs[1 + n] = samples[n / LEG];
+    return mixes(count);
+}
+
+/* One leg, two, three of full size, and four of which two take the others back. */
+static void of_mix_cases(void)
+{
+    static const int16_t alone[1] = {1234}, two[2] = {-32768, 32767}, high[3] = {32767, 32767, 32767}, low[3] = {-32768, -32768, -32768};
+    static const int16_t back[5] = {32767, 32767, -32768, -32768, 5};
+
+    CHECK(mix_steady(alone, 1) && hears(0, 0));
+    CHECK(mix_steady(two, 2) && hears(0, 32767) && hears(1, -32768));
+    CHECK(mix_steady(high, 3) && hears(0, 32767) && hears(1, 32767) && hears(2, 32767));
+    CHECK(mix_steady(low, 3) && hears(0, -32768) && hears(1, -32768) && hears(2, -32768));
+    CHECK(mix_steady(back, 5) && hears(4, -2) && hears(0, -32764) && hears(2, 32767));
+}
+
+/* The leg at a place of an order: 0 to 7 begin at that leg and go forwards, 8 to 15 go backwards. */
+static size_t ordered(size_t order, size_t place)
+{
+    return (order < HOLDAMEK_MOST_LEGS ? order + place : order + HOLDAMEK_MOST_LEGS - place) % HOLDAMEK_MOST_LEGS;
+}
+
+/* Eight legs, in each of these orders: every leg hears the same in all. */
+static void of_mix_order(void)
+{
+    int16_t own[MOST_MIXED], due[MOST_MIXED];
+    size_t order, n;
+
+    mark_legs();
+    for (n = 0; n < MOST_MIXED; n++)
+        legs[1 + n] = own[n] = (int16_t)((int)(n * 7919 % 65536) - 32768);
+    CHECK(mixes(HOLDAMEK_MOST_LEGS));
+    memcpy(due, heard + 1, sizeof due);
+    for (order = 0; order < 2 * HOLDAMEK_MOST_LEGS; order++) {
+        int good;
+
+        for (n = 0; n < MOST_MIXED; n++)
+            legs[1 + n] = own[ordered(order, n / LEG) * LEG + n % LEG];
+        good = mixes(HOLDAMEK_MOST_LEGS);
+        for (n = 0; n < MOST_MIXED; n++)
+            good = good && heard[1 + n] == due[ordered(order, n / LEG) * LEG + n % LEG];
+        check(good, "legs in another order hear the same, in that order");
+    }
+}
+
+static void of_mix(void)
+{
+    of_mix_lengths();
+    of_mix_cases();
+    of_mix_sums();
+    of_mix_order();
+}
+
 int main(void)
 {
     size_t n;
@@ -914,6 +1083,7 @@ int main(void)
     of_writing();
     of_payloads();
     of_g711();
+    of_mix();
     CHECK(tables[HOLDAMEK_TABLE_WORDS] == MARK);
     printf("border: %d checks, %d failed\n", checks, failed);
     return failed != 0;

@@ -8,7 +8,7 @@ PAYLOADS = os.path.abspath(os.environ.get("PAYLOADS", os.path.join(ROOT, "target
 G711_LEG = os.path.abspath(os.environ.get("G711_LEG", os.path.join(ROOT, "target/bin/g711_leg")))
 DECODE = os.path.abspath(os.environ.get("DECODE", os.path.join(ROOT, "target/bin/decode")))
 TABLES = os.path.join(ROOT, "examples/tables.g729")
-VERSION = b"holdamek 0.7.0\n"
+VERSION = b"holdamek 0.8.0\n"
 
 
 def a_line(r):

@@ -85,6 +85,12 @@ mod c {
             bytes: *mut u8,
             bytes_len: usize,
         ) -> u32;
+        pub fn holdamek_mix(
+            legs: *const i16,
+            legs_len: usize,
+            heard: *mut i16,
+            heard_len: usize,
+        ) -> u32;
         pub fn holdamek_count(kind: u32, frames: *mut u32, lost: *mut u32) -> u32;
         pub fn holdamek_agree(
             a: *const i16,
@@ -223,6 +229,11 @@ pub fn g711_write(law: u32, samples: &[i16], bytes: &mut [u8]) -> u32 {
             bytes.len(),
         )
     }
+}
+
+pub fn mix(legs: &[i16], heard: &mut [i16]) -> u32 {
+    // SAFETY: see the head of this file.
+    unsafe { c::holdamek_mix(legs.as_ptr(), legs.len(), heard.as_mut_ptr(), heard.len()) }
 }
 
 pub fn count(kind: u32, frames: &mut u32, lost: &mut u32) -> u32 {

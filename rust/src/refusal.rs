@@ -18,7 +18,8 @@ pub enum Refusal {
     Kind,
     /// 6: the payload's length isn't that of its kind, or there are not ten bytes to read fields from or to write them to.
     PayloadLength,
-    /// 7: the output isn't 80 words, or the room for a line isn't 36 bytes, or a G.711 leg has not as many bytes as samples.
+    /// 7: the output isn't 80 words, or the room for a line isn't 36 bytes, or a G.711 leg has not as many bytes as samples, or
+    /// what legs heard has not as many frames as there are legs.
     OutputLength,
     /// 8: the receiver of the fields isn't 15 numbers, or the fields to be written aren't 15, or 14 without P0.
     ReceiverLength,
@@ -38,12 +39,14 @@ pub enum Refusal {
     OtherLaw,
     /// 17: a sample isn't a table value of the law: no byte is read as it.
     NoTableValue,
+    /// 19: a conference has no legs, or more than 8.
+    LegsLength,
     /// A number that this version of the crate doesn't know.
     Other(u32),
 }
 
-/// The refusals with their numbers, 1 to 13 and 15 to 17, and their texts.
-const NUMBERED: [(u32, Refusal, &str); 16] = [
+/// The refusals with their numbers, 1 to 13, 15 to 17 and 19, and their texts.
+const NUMBERED: [(u32, Refusal, &str); 17] = [
     (1, Refusal::TableLength, "the table block isn't 1,880 words"),
     (
         2,
@@ -65,7 +68,7 @@ const NUMBERED: [(u32, Refusal, &str); 16] = [
     (
         7,
         Refusal::OutputLength,
-        "the output isn't 80 words, or the room for a line isn't 36 bytes, or a G.711 leg has not as many bytes as samples",
+        "the output isn't 80 words, or the room for a line isn't 36 bytes, or a G.711 leg has not as many bytes as samples, or what legs heard has not as many frames as there are legs",
     ),
     (
         8,
@@ -95,6 +98,11 @@ const NUMBERED: [(u32, Refusal, &str); 16] = [
         17,
         Refusal::NoTableValue,
         "a sample isn't a table value of the law",
+    ),
+    (
+        19,
+        Refusal::LegsLength,
+        "a conference has no legs, or more than 8",
     ),
 ];
 
@@ -135,10 +143,10 @@ impl std::error::Error for Refusal {}
 #[test]
 fn every_number_comes_back() {
     assert_eq!(Refusal::check(0), Ok(()));
-    for code in (1..20).chain([u32::MAX]) {
+    for code in (1..22).chain([u32::MAX]) {
         let refusal = Refusal::check(code).unwrap_err();
         assert_eq!(refusal.code(), code);
-        let known = code <= 17 && code != 14;
+        let known = code <= 19 && code != 14 && code != 18;
         assert_eq!(matches!(refusal, Refusal::Other(_)), !known);
     }
 }

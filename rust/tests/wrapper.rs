@@ -1,11 +1,11 @@
-//! The wrapper over the example files: samples, saving and resuming, the writing of frames, the frames of RTP payloads, G.711 legs, the agreement of two decoders, the comparison with a far one, every refusal that its types leave.
+//! The wrapper over the example files: samples, saving and resuming, the writing of frames, the frames of RTP payloads, G.711 legs, what each leg of a conference heard, the agreement of two decoders, the comparison with a far one, every refusal that its types leave.
 
 use holdamek::{
-    fields, payload_frame, payload_frames, write_fields, write_fields_parity, Agreement, Compared,
-    Comparison, Counts, Decoder, Frame, Law, PayloadFrame, PayloadFrames, Refusal, SpeechParams,
-    StateBlock, TableBlock,
+    fields, mix, payload_frame, payload_frames, write_fields, write_fields_parity, Agreement,
+    Compared, Comparison, Counts, Decoder, Frame, Law, PayloadFrame, PayloadFrames, Refusal,
+    Samples, SpeechParams, StateBlock, TableBlock,
 };
-use holdamek::{COMPARE_WORDS, LONGEST_LINE, MOST_FRAMES, STATE_WORDS, TABLE_WORDS};
+use holdamek::{COMPARE_WORDS, LONGEST_LINE, MOST_FRAMES, MOST_LEGS, STATE_WORDS, TABLE_WORDS};
 
 const TABLES: &[u8] = include_bytes!("../../examples/tables.g729");
 const CALL: &[u8] = include_bytes!("../../examples/example.call");
@@ -602,6 +602,121 @@ fn a_leg_has_as_many_bytes_as_samples() {
     }
 }
 
+/// The sum of what all legs but one have at each place, limited.
+fn others(legs: &[Samples], own: usize) -> Samples {
+    std::array::from_fn(|place| {
+        let samples = legs.iter().map(|leg| i32::from(leg[place]));
+        let sum = samples.sum::<i32>() - i32::from(legs[own][place]);
+        sum.clamp(i16::MIN.into(), i16::MAX.into()) as i16
+    })
+}
+
+/// What each of these legs heard, each the sum of the others.
+fn heard(legs: &[Samples]) -> Vec<Samples> {
+    let mut heard = vec![[7; 80]; legs.len()];
+    assert_eq!(mix(legs, &mut heard), Ok(()));
+    for (own, samples) in heard.iter().enumerate() {
+        assert_eq!(*samples, others(legs, own));
+    }
+    heard
+}
+
+/// As many legs, every sample another, and many sums at the limit.
+fn legs(count: usize) -> Vec<Samples> {
+    let sample = |leg: usize, place: usize| ((leg * 80 + place) * 7919) as u16 as i16;
+    (0..count)
+        .map(|leg| std::array::from_fn(|place| sample(leg, place)))
+        .collect()
+}
+
+#[test]
+fn each_leg_hears_the_sum_of_the_others() {
+    for count in 1..=MOST_LEGS {
+        heard(&legs(count));
+        // Every choice of samples at the limits and beside zero, a choice at each place.
+        let ends = [-32768, -1, 1, 32767];
+        for first in (0..1 << (2 * count)).step_by(80) {
+            let sample = |leg: usize, place: usize| ends[(first + place) >> (2 * leg) & 3];
+            let chosen = |leg| std::array::from_fn(|place| sample(leg, place));
+            heard(&(0..count).map(chosen).collect::<Vec<Samples>>());
+        }
+    }
+}
+
+#[test]
+fn one_leg_hears_nothing_and_two_each_other() {
+    assert_eq!(heard(&[[i16::MIN; 80]]), [[0; 80]]);
+    for (a, b) in (i16::MIN..=i16::MAX).zip((i16::MIN..=i16::MAX).rev()) {
+        assert_eq!(heard(&[[a; 80], [b; 80]]), [[b; 80], [a; 80]]);
+    }
+}
+
+#[test]
+fn only_the_whole_sum_is_limited() {
+    let (most, least) = ([i16::MAX; 80], [i16::MIN; 80]);
+    assert_eq!(heard(&[most; 3]), [most; 3]);
+    assert_eq!(heard(&[least; 3]), [least; 3]);
+    assert_eq!(heard(&[most; MOST_LEGS]), [most; MOST_LEGS]);
+    // The last leg hears two that would be at the limit, and two that take them back.
+    for four in [[most, most, least, least], [least, least, most, most]] {
+        let mut five = four.to_vec();
+        five.push([5; 80]);
+        assert_eq!(heard(&five)[4], [-2; 80]);
+    }
+}
+
+#[test]
+fn legs_in_another_order_hear_the_same() {
+    let mut legs = legs(MOST_LEGS);
+    let mut due = heard(&legs);
+    for turn in 0..2 * MOST_LEGS {
+        legs.rotate_left(1);
+        due.rotate_left(1);
+        if turn == MOST_LEGS {
+            legs.reverse();
+            due.reverse();
+        }
+        assert_eq!(heard(&legs), due);
+        legs.swap(2, 5);
+        due.swap(2, 5);
+        assert_eq!(heard(&legs), due);
+    }
+}
+
+#[test]
+fn other_numbers_of_legs_are_refused() {
+    for (count, room) in (0..12).flat_map(|c| (0..12).map(move |r| (c, r))) {
+        let mut heard = vec![[7; 80]; room];
+        // Their number comes first.
+        let due = match (1..=MOST_LEGS).contains(&count) {
+            false => Err(Refusal::LegsLength),
+            true if room != count => Err(Refusal::OutputLength),
+            true => Ok(()),
+        };
+        assert_eq!(mix(&legs(count), &mut heard), due);
+        if due.is_err() {
+            assert_eq!(heard, vec![[7; 80]; room]);
+        }
+    }
+    assert_eq!(mix(&[], &mut []), Err(Refusal::LegsLength));
+    assert_eq!(mix(&[[1; 80]; 9], &mut []), Err(Refusal::LegsLength));
+    assert_eq!(mix(&[[1; 80]; 8], &mut []), Err(Refusal::OutputLength));
+}
+
+#[test]
+fn legs_of_both_codecs_are_mixed() {
+    let tables = tables();
+    let mut decoder = Decoder::new(&tables).unwrap();
+    for (n, frame) in call().iter().enumerate() {
+        let bytes: [u8; 80] = std::array::from_fn(|place| (place * 5 + n * 11) as u8);
+        let mut conference = [[0; 80]; 3];
+        Law::Mu.read(&bytes, &mut conference[0]).unwrap();
+        Law::A.read(&bytes, &mut conference[1]).unwrap();
+        conference[2] = decoder.decode(frame).unwrap();
+        heard(&conference);
+    }
+}
+
 #[test]
 fn a_call_has_a_limit() {
     let mut counts = Counts {
@@ -626,6 +741,7 @@ fn refusals_have_their_numbers() {
     assert_eq!(Refusal::FieldWidth.code(), 15);
     assert_eq!(Refusal::OtherLaw.code(), 16);
     assert_eq!(Refusal::NoTableValue.code(), 17);
+    assert_eq!(Refusal::LegsLength.code(), 19);
     assert_eq!(
         Refusal::LineForm.to_string(),
         "refusal 9: the line isn't one of the four forms"

@@ -10,7 +10,7 @@ use lib.ListN.{length}
 use lib.Signed.{ltZ}
 use borrow.Author.Tests.{ltb-true, ltb-false, le-ltb, eqb-true}
 use Rattle.laws.specs.Lists.{at, tab, at-tab}
-use Rattle.laws.specs.Loops.{nowhere-each, nowhere-all}
+use Rattle.laws.specs.Loops.{both-hold, nowhere-each, nowhere-all}
 use Rattle.laws.specs.Ints.{most-both}
 use Rattle.block.specs.Block.{part}
 use Rattle.block.specs.Places.{past-length, tail-length, past-place, tail-place, state-length}
@@ -93,15 +93,10 @@ pub record SameParams (p q : Params) : Type 0 where
   pub gc : p .gain .gc ≡ q .gain .gc
   pub beta : p .beta ≡ q .beta
 
-both : (x y : Bool) → x && y ≡ true → (x ≡ true) × (y ≡ true)
-both true true h = (refl, refl)
-both true false h = absurd (true≢false (sym h))
-both false y h = absurd (true≢false (sym h))
-
 pub parameters-equal : (a b : List ℤ) → same-parameters a b ≡ true → SameParams (read-params a) (read-params b)
 unfolding same-parameters read-params
 parameters-equal a b e =
-    let h = both (equal-words a b 0 62) (equal-words a b 63 7) e in
+    let h = both-hold (equal-words a b 0 62) (equal-words a b 63 7) e in
     record {
       r0 = equal-within a b 0 62 (h .0) 0 10 (omega arith) (omega arith);
       r1 = equal-within a b 0 62 (h .0) 10 10 (omega arith) (omega arith);

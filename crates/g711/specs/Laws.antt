@@ -18,7 +18,7 @@ use borrow.Author.Tests.{eq-eqb, ne-eqb, eqb-true, eqb-false, lt-ltb, le-ltb, lt
 use mir.Facts.{and-yes}
 use Rattle.laws.specs.Ints.{sameZ, sameZ-yes, sameZ-true, sameZ-false}
 use Rattle.laws.specs.Lists.{at}
-use Rattle.laws.specs.Loops.{every, every-at, steps}
+use Rattle.laws.specs.Loops.{both-hold, every, every-at, steps}
 use Rattle.g711.specs.declared.Form.{Form}
 use Rattle.g711.specs.G711.{sign, segment, step, mu, a, known, value, last, byte-of, back, all-values, Read, Written, read, written, refusal, read-call, write-call}
 use Rattle.g711.specs.Fast.{form, lifted, sized, lowest, five-above, fault, faults, leading, sign-bit, segment-less, found-byte}
@@ -85,11 +85,6 @@ module _ (f : ℕ → ℤ) (z : ℤ) where
       by false e g r = r g
 
 -- ---- tests
-
--- both of two
-pub parts : (p q : Bool) → (p && q) ≡ true → (p ≡ true) × (q ≡ true)
-parts true q f = (refl, f)
-parts false q f = let n : _≡_ {A = ℕ} 0 1 = cc in absurd (omega arith)
 
 yes-le : (m n : ℕ) → m ≤ n → leb m n ≡ true
 yes-le m n h = by (leb m n) (le→leb m n h)
@@ -206,7 +201,7 @@ seven-bits least most less size t x p h i j e =
     let k : ℕ = o .k in
     let q : ℕ = o .q in
     let f : (ltb (x / 64) (2 ^ k) && leb (2 ^ k) (x / 32)) ≡ true = rw (o .low) at e in
-    let l : x / 64 < 2 ^ k = ltb-true (x / 64) (2 ^ k) (parts (ltb (x / 64) (2 ^ k)) (leb (2 ^ k) (x / 32)) f .0) in
+    let l : x / 64 < 2 ^ k = ltb-true (x / 64) (2 ^ k) (both-hold (ltb (x / 64) (2 ^ k)) (leb (2 ^ k) (x / 32)) f .0) in
     let b : q < 32 = few x (2 ^ k) q (omega arith) (o .is) l in
     let g : fitting least most k q ≡ true = rw (← o .is, f, yes-le least x i, yes-le x most j) in
     let r = implied-at (fitting least most) (seven less size) 16 32 k q t (o .below) b g in
@@ -419,7 +414,7 @@ module _ (law : ℕ) (e : known law ≡ true) where
   each-fits (z ∷ l) v k h = by (eqb (fault (form law) z) 0) refl k h (each-fits l)
     where
       two : (ltb (byte-of law z) 256 ≡ true) × (all-values law l ≡ true)
-      two = parts (ltb (byte-of law z) 256) (all-values law l) v
+      two = both-hold (ltb (byte-of law z) 256) (all-values law l) v
 
       by : (t : Bool) → eqb (fault (form law) z) 0 ≡ t → (k : ℕ) → k < suc (length l)
           → (all-values law l ≡ true → (k : ℕ) → k < length l → fault (form law) (at l k) ≡ 0) → fault (form law) (at (z ∷ l) k) ≡ 0

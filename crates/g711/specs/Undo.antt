@@ -9,7 +9,8 @@ use lib.IntN.{ℤ}
 use lib.ListN.{length, getD, length-map}
 use borrow.Author.Tests.{eq-eqb, lt-ltb, ltb-true}
 use Rattle.g711.specs.G711.{known, value, byte-of, back, all-values, read, written, refusal, read-call, write-call}
-use Rattle.g711.specs.Laws.{last-is, there-back, back-lt, parts}
+use Rattle.laws.specs.Loops.{both-hold}
+use Rattle.g711.specs.Laws.{last-is, there-back, back-lt}
 
 module _ (law : ℕ) (e : known law ≡ true) where
   -- a byte's sample turns back into the byte, but for 7F in mu-law, whose sample, zero, turns into FF
@@ -37,7 +38,7 @@ module _ (law : ℕ) (e : known law ≡ true) where
   unfolding all-values
   samples-back [] v = refl
   samples-back (z ∷ l) v =
-      let two = parts (ltb (byte-of law z) 256) (all-values law l) v in
+      let two = both-hold (ltb (byte-of law z) 256) (all-values law l) v in
       let p = sample-byte z (ltb-true (byte-of law z) 256 (two .0)) in
       let q = samples-back l (two .1) in
       λ i. p i ∷ q i

@@ -1,4 +1,4 @@
-// The operations of 01 for other languages, the writing of frames and lines, the frames of RTP payloads, G.711, the agreement of two decoders and the comparison with a far one: C functions over pointers and lengths, each the proved function of its crate.
+// The operations of 01 for other languages, the writing of frames and lines, the frames of RTP payloads, G.711, what each leg of a conference heard, the agreement of two decoders and the comparison with a far one: C functions over pointers and lengths, each the proved function of its crate.
 // A slice is a pointer and then a length in elements. Each returns 0 or the number of its refusal, which leaves all lent memory as it
 // was; what it answers beside its number goes to lent memory. The two for RTP payloads return a struct of both. include/holdamek.h says the same for C.
 ghost use mathlib.Core.Path.{_≡_};
@@ -8,6 +8,7 @@ ghost use Rattle.bitstream.specs.Fields as fields;
 ghost use Rattle.pack.specs.Pack.{write-fields, write-fields-parity};
 ghost use Rattle.rtp.specs.Rtp.{frames, find};
 ghost use Rattle.g711.specs.G711 as g711;
+ghost use Rattle.mix.specs.Mix as mixing;
 ghost use Rattle.state.specs.State as state;
 ghost use Rattle.agree.specs.Agree.{agree};
 ghost use Rattle.decoder.specs.Call.{frame};
@@ -76,6 +77,14 @@ pub extern "C" fn holdamek_g711_write(law: u32, samples: &[i16], bytes: &mut [u8
     ensures { λ r. ⌜ g711.written r (now (bytes .exit)) ≡ g711.write-call law (now (samples .entry)) (now (bytes .entry)) ⌝ }
 {
     g711::write(law, samples, bytes)
+}
+
+// What each leg of a conference heard: the sum of all others, limited.
+#[no_mangle]
+pub extern "C" fn holdamek_mix(legs: &[i16], heard: &mut [i16]) -> u32
+    ensures { λ r. ⌜ mixing.mixed r (now (heard .exit)) ≡ mixing.mix-call (now (legs .entry)) (now (heard .entry)) ⌝ }
+{
+    mix::mix(legs, heard)
 }
 
 #[no_mangle]

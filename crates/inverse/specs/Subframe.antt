@@ -12,7 +12,7 @@ use lib.ListN.{length, set, List·getD-map}
 use lib.Seq.{getD-set-same, getD-set-other}
 use lib.Signed.{mag, shrZ, natAbs-le}
 use borrow.Author.Tests.{ltb-true, ltb-false}
-use Rattle.laws.specs.Lists.{at, tab}
+use Rattle.laws.specs.Lists.{at, tab, tab-same}
 use Rattle.laws.specs.Loops.{steps-same, run, length-run, run-out}
 use Rattle.laws.specs.Range.{mag-shr-less}
 use Rattle.basic_op.specs.Laws.{sat-mag}
@@ -43,11 +43,6 @@ run-word f p n j l b h =
     ∙ getD-set-same (run f p j l) (p + j) (f j (run f p j l)) (pos 0) (omega (arith, length-run f p j l))
 
 -- ---- tables
-
-pub tab-same : (n : ℕ) (f g : ℕ → ℤ) → ((k : ℕ) → k < n → f k ≡ g k) → tab n f ≡ tab n g
-unfolding tab
-tab-same zero f g h = refl
-tab-same (suc n) f g h = rw (tab-same n f g (λ k b. h k (omega arith)), h n (omega arith))
 
 tab-word : (n : ℕ) (f : ℕ → ℤ) → ((k : ℕ) → k < n → mag (f k) < 32768) → map word (tab n f) ≡ tab n f
 unfolding tab

@@ -8,12 +8,13 @@ use native.Mathlib.Omega.{arith}
 use lib.Dec.{eqb, leb}
 use lib.IntN.{ℤ, pos, natAbs, _+ℤ_, _-ℤ_, +ℤ-idl, +ℤ-idr, +ℤ-assoc, +ℤ-comm, +ℤ-negℤ-cancel}
 use lib.ListN.{length, getD, take, drop, set, replicate, length-append, length-map, drop-of-length-le}
-use lib.Seq.{take-suc, take-all, take-at, split-at, getD-take, getD-drop, drop-drop, drop-append-add, paste, paste-suc}
+use lib.Seq.{take-suc, take-all, take-at, drop-at, split-at, getD-take, getD-drop, drop-drop, drop-append-add, paste, paste-suc}
 use lib.Signed.{mag, natAbs-le}
-use borrow.Author.Tests.{ne-eqb, eqb-true, eqb-false, leb-true}
+use borrow.Author.Tests.{eq-eqb, ne-eqb, le-leb, eqb-true, eqb-false, leb-true}
 use mir.Syntax.{w16, w32}
 use mir.Val.{SFits}
-use Rattle.laws.specs.Lists.{at, tab, at-zeros, length-tab, at-tab, tab-below, upto, length-upto, map-upto}
+use Rattle.laws.specs.Lists.{at, tab, at-zeros, length-tab, at-tab, tab-same, upto, length-upto, map-upto}
+use Rattle.laws.specs.Loops.{both-hold}
 use Rattle.laws.specs.Range.{mag-abs, mag-add, mag-sub}
 use Rattle.laws.specs.Sums.{abs-add}
 use Rattle.basic_op.specs.Ops.{sat16}
@@ -127,7 +128,7 @@ summed-length l t k w = ap length (w .0) ∙ length-tab 80 (λ i. sum i (take k 
 
 pub summed-turn : (l t out : List ℤ) (k p : ℕ) → k < length l / 80 → SamplesAt l p 80 → p ≡ 80 * k → Summed l k t → out ≡ tab 80 (λ i. at t i +ℤ at l (p + i)) → Summed l (k + 1) out
 summed-turn l t out k p h s q w e = (
-  e ∙ tab-below 80 (λ i. at t i +ℤ at l (p + i)) (λ i. sum i (take (k + 1) (legs-of l))) go,
+  e ∙ tab-same 80 (λ i. at t i +ℤ at l (p + i)) (λ i. sum i (take (k + 1) (legs-of l))) go,
   within-turn k p t l out (w .1) s e,
 )
   where
@@ -190,7 +191,7 @@ heard-none l d = refl
 -- what the loop writes of a leg is what it heard
 less-heard : (l t : List ℤ) (k : ℕ) → k < length l / 80 → t ≡ tab 80 (λ i. sum i (legs-of l)) → tab 80 (λ i. sat16 (at t i -ℤ at l (80 * k + i))) ≡ heard (legs-of l) k
 unfolding heard
-less-heard l t k h e = tab-below 80 (λ i. sat16 (at t i -ℤ at l (80 * k + i))) (λ i. sat16 (sum i (others k (legs-of l)))) go
+less-heard l t k h e = tab-same 80 (λ i. sat16 (at t i -ℤ at l (80 * k + i))) (λ i. sat16 (sum i (others k (legs-of l)))) go
   where
     go : (i : ℕ) → i < 80 → sat16 (at t i -ℤ at l (80 * k + i)) ≡ sat16 (sum i (others k (legs-of l)))
     go i b =
@@ -219,10 +220,6 @@ heard-end l d out k h z b w =
 
 -- ---- the call
 
-both : (p q : Bool) → (p && q) ≡ true → (p ≡ true) × (q ≡ true)
-both true q f = (refl, f)
-both false q f = let n : _≡_ {A = ℕ} 0 1 = cc in absurd (omega arith)
-
 -- what a length that is not refused is
 pub record Whole (n : ℕ) : Type 0 where
   pub rest : n % 80 ≡ 0
@@ -232,11 +229,39 @@ pub record Whole (n : ℕ) : Type 0 where
 pub whole-is : (n : ℕ) → whole n ≡ true → Whole n
 unfolding whole
 whole-is n e =
-    let p = both (eqb (n % 80) 0 && leb 80 n) (leb n 640) e in
-    let q = both (eqb (n % 80) 0) (leb 80 n) (p .0) in
+    let p = both-hold (eqb (n % 80) 0 && leb 80 n) (leb n 640) e in
+    let q = both-hold (eqb (n % 80) 0) (leb 80 n) (p .0) in
     record { rest = eqb-true (n % 80) 0 (q .0); least = leb-true 80 n (q .1); most = leb-true n 640 (p .1) }
 
--- lengths that are not refused
+pub whole-taken : (n : ℕ) → Whole n → refusal n n ≡ 0
+unfolding refusal whole
+whole-taken n w = rw (eq-eqb (n % 80) 0 (w .rest), le-leb 80 n (w .least), le-leb n 640 (w .most), eq-eqb n n refl)
+
+-- ---- legs one after another are these legs
+
+module _ where
+  pub joined-length : (m : List (List ℤ)) → ((k : ℕ) → k < length m → length (getD m k []) ≡ 80) → length (joined m) ≡ 80 * length m
+  unfolding joined
+  joined-length [] h = refl
+  joined-length (x ∷ m) h =
+      let a : length x ≡ 80 = h 0 (omega arith) in
+      let b : length (joined m) ≡ 80 * length m = joined-length m (λ k c. h (suc k) (omega arith)) in
+      length-append x (joined m) ∙ omega (arith, a, b)
+
+  frames-joined : (m : List (List ℤ)) → ((k : ℕ) → k < length m → length (getD m k []) ≡ 80) → frames (length m) (joined m) ≡ m
+  unfolding frames joined
+  frames-joined [] h = refl
+  frames-joined (x ∷ m) h =
+      rw (take-at x (joined m) 80 (h 0 (omega arith)), drop-at x (joined m) 80 (h 0 (omega arith)), frames-joined m (λ k c. h (suc k) (omega arith)))
+
+pub legs-joined : (m : List (List ℤ)) → ((k : ℕ) → k < length m → length (getD m k []) ≡ 80) → legs-of (joined m) ≡ m
+unfolding legs-of
+legs-joined m h =
+    let n : length (joined m) / 80 ≡ length m = omega (arith, joined-length m h) in
+    ap (λ (k : ℕ). frames k (joined m)) n ∙ frames-joined m h
+
+-- ---- lengths that are not refused
+
 pub taken : (l d : List ℤ) (n : ℕ) → n ≡ refusal (length l) (length d) → n ≡ 0 → Whole (length l) × (length d ≡ length l)
 unfolding refusal
 taken l d n e z = go (whole (length l)) refl (eqb (length d) (length l)) refl (sym e ∙ z)
@@ -253,3 +278,31 @@ mix-refused l d n e z = rw (← e, ne-eqb n 0 z)
 pub mix-done : (l d out : List ℤ) (n : ℕ) → n ≡ refusal (length l) (length d) → n ≡ 0 → out ≡ joined (mix (legs-of l)) → mixed 0 out ≡ mix-call l d
 unfolding mix-call
 mix-done l d out n e z g = rw (← e, z, g)
+
+-- what is known of a call that is not refused
+pub record Done (l d r : List ℤ) : Type 0 where
+  pub whole : Whole (length l)
+  pub lent : length d ≡ length l
+  pub results : r ≡ joined (mix (legs-of l))
+
+pub done : (l d r : List ℤ) → mix-call l d ≡ mixed 0 r → Done l d r
+unfolding mix-call
+done l d r e = go (refusal (length l) (length d)) refl (eqb (refusal (length l) (length d)) 0) refl e
+  where
+    go : (n : ℕ) → n ≡ refusal (length l) (length d) → (t : Bool) → eqb n 0 ≡ t → cond t (mixed 0 (joined (mix (legs-of l)))) (mixed n d) ≡ mixed 0 r → Done l d r
+    go n f true z g =
+        let h = taken l d n f (eqb-true n 0 z) in
+        let q : r ≡ joined (mix (legs-of l)) = cc in
+        record { whole = h .0; lent = h .1; results = q }
+    go n f false z g = let q : n ≡ 0 = cc in absurd (eqb-false n 0 z q)
+
+-- its results, as legs
+pub legs-results : (l d r : List ℤ) → Done l d r → legs-of r ≡ mix (legs-of l)
+legs-results l d r w =
+    ap legs-of (w .results) ∙ legs-joined (mix (legs-of l)) (λ k h. let b : k < length (legs-of l) = omega (arith, length-mix (legs-of l)) in ap length (mix-at (legs-of l) k b) ∙ length-heard (legs-of l) k)
+
+pub length-done : (l d r : List ℤ) → Done l d r → length r ≡ length l
+length-done l d r w =
+    ap length (w .results)
+    ∙ joined-length (mix (legs-of l)) (λ k h. let b : k < length (legs-of l) = omega (arith, length-mix (legs-of l)) in ap length (mix-at (legs-of l) k b) ∙ length-heard (legs-of l) k)
+    ∙ omega (arith, length-mix (legs-of l), length-legs l, w .whole .rest)

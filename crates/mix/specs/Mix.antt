@@ -1,5 +1,5 @@
--- What each caller of a conference heard (change request 10): for each leg the sum of all the others, limited to 16 bits after the exact sum. A leg is a frame of 80 samples; it is not
--- known what they were decoded from.
+-- What each caller of a conference heard (change request 10): for each leg the sum of all the others, limited to 16 bits after the exact sum. A leg is a frame of 80 samples;
+-- nothing here depends on what they were decoded from.
 use mathlib.Core.Bool.{Bool, cond, _&&_}
 use mathlib.Core.List.{List, [], _∷_, _++_, map}
 use Prim.Native.Nat.{ℕ, zero, suc, _/_, _%_}
@@ -33,10 +33,11 @@ unfoldable pub frames : ℕ → List ℤ → List (List ℤ)
 frames zero l = []
 frames (suc n) l = take 80 l ∷ frames n (drop 80 l)
 
+-- the whole frames of what is lent
 unfoldable pub legs-of : List ℤ → List (List ℤ)
 legs-of l = frames (length l / 80) l
 
--- one after another
+-- legs one after another, as one list
 unfoldable pub joined : List (List ℤ) → List ℤ
 joined [] = []
 joined (leg ∷ legs) = leg ++ joined legs

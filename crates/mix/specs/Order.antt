@@ -1,18 +1,16 @@
 -- The legs in any other order: the results are in that order, otherwise equal (change request 10). Assumes nothing.
 use mathlib.Core.Path.{_≡_, refl, sym, ap, _∙_}
-use mathlib.Core.Bool.{true}
 use mathlib.Core.List.{List, [], _∷_, map}
 use Prim.Native.Nat.{ℕ, zero, suc, _+_, _*_, _/_, _<_}
 use native.Mathlib.Omega.{arith}
 use lib.IntN.{ℤ, _+ℤ_, _-ℤ_, +ℤ-assoc, +ℤ-comm}
-use lib.ListN.{length, getD, drop, length-append, length-drop, length-map}
-use lib.Seq.{ext-getD, take-at, drop-at, length-take-le}
-use borrow.Author.Tests.{eq-eqb}
-use Rattle.laws.specs.Lists.{at, tab-ext, upto, length-upto, map-upto}
+use lib.ListN.{length, getD, drop, length-drop, length-map}
+use lib.Seq.{ext-getD, length-take-le}
+use Rattle.laws.specs.Lists.{at, tab-ext, upto, length-upto, map-upto, upto-at}
 use Rattle.laws.specs.Perm.{Perm, none, keep, swap, then, perm-length, perm-each, perm-map}
 use Rattle.basic_op.specs.Ops.{sat16}
-use Rattle.mix.specs.Mix.{sum, others, heard, mix, frames, legs-of, joined, whole, refusal, mixed, mix-call}
-use Rattle.mix.specs.Laws.{sum-others, length-mix, mix-at, length-legs, legs-at, whole-is}
+use Rattle.mix.specs.Mix.{sum, others, heard, mix, legs-of, joined, whole, refusal, mixed, mix-call}
+use Rattle.mix.specs.Laws.{sum-others, length-mix, mix-at, length-legs, legs-at, Whole, whole-taken, joined-length, legs-joined, done, legs-results, mix-done}
 
 -- the legs of these numbers, in their order
 unfoldable pub in-order : List ℕ → List (List ℤ) → List (List ℤ)
@@ -52,14 +50,7 @@ module _ (l : List (List ℤ)) (ks : List ℕ) (p : Perm ks (upto (length l))) w
 
   -- each number is that of a leg
   below : (j : ℕ) → j < length ks → getD ks j 0 < length l
-  below = perm-each (λ (k : ℕ). k < length l) 0 p (λ j h. rw (number (length l) j (rw length-upto at h)) (rw length-upto at h))
-    where
-      number : (n j : ℕ) → j < n → getD (upto n) j 0 ≡ j
-      number n j h = sym (ap (λ (x : List ℕ). getD x j 0) (map-id (upto n))) ∙ map-upto (λ (k : ℕ). k) n j 0 h
-        where
-          map-id : (x : List ℕ) → map (λ (k : ℕ). k) x ≡ x
-          map-id [] = refl
-          map-id (k ∷ x) = ap (λ (y : List ℕ). k ∷ y) (map-id x)
+  below = perm-each (λ (k : ℕ). k < length l) 0 p (λ j h. rw (upto-at (length l) j (rw length-upto at h)) (rw length-upto at h))
 
   heard-in-order : (j : ℕ) → j < length ks → heard (in-order ks l) j ≡ heard l (getD ks j 0)
   unfolding heard
@@ -84,53 +75,30 @@ module _ (l : List (List ℤ)) (ks : List ℕ) (p : Perm ks (upto (length l))) w
 
 -- ---- the same of the call
 
--- legs one after another are these legs
-module _ where
-  joined-length : (m : List (List ℤ)) → ((k : ℕ) → k < length m → length (getD m k []) ≡ 80) → length (joined m) ≡ 80 * length m
-  unfolding joined
-  joined-length [] h = refl
-  joined-length (x ∷ m) h =
-      let a : length x ≡ 80 = h 0 (omega arith) in
-      let b : length (joined m) ≡ 80 * length m = joined-length m (λ k c. h (suc k) (omega arith)) in
-      length-append x (joined m) ∙ omega (arith, a, b)
-
-  frames-joined : (m : List (List ℤ)) → ((k : ℕ) → k < length m → length (getD m k []) ≡ 80) → frames (length m) (joined m) ≡ m
-  unfolding frames joined
-  frames-joined [] h = refl
-  frames-joined (x ∷ m) h =
-      rw (take-at x (joined m) 80 (h 0 (omega arith)), drop-at x (joined m) 80 (h 0 (omega arith)), frames-joined m (λ k c. h (suc k) (omega arith)))
-
-pub legs-joined : (m : List (List ℤ)) → ((k : ℕ) → k < length m → length (getD m k []) ≡ 80) → legs-of (joined m) ≡ m
-unfolding legs-of
-legs-joined m h =
-    let n : length (joined m) / 80 ≡ length m = omega (arith, joined-length m h) in
-    ap (λ (k : ℕ). frames k (joined m)) n ∙ frames-joined m h
-
 length-leg : (l : List ℤ) (k : ℕ) → k < length l / 80 → length (getD (legs-of l) k []) ≡ 80
 length-leg l k h = ap length (legs-at l k h) ∙ length-take-le 80 (drop (80 * k) l) (rw length-drop (omega arith))
 
--- lent in another order, the call writes the results in that order
-pub call-order : (l before : List ℤ) (ks : List ℕ) → whole (length l) ≡ true → length before ≡ length l → Perm ks (upto (length l / 80))
-    → mix-call (joined (in-order ks (legs-of l))) before ≡ mixed 0 (joined (in-order ks (mix (legs-of l))))
-unfolding mix-call refusal
-call-order l before ks w b p =
-    rw (long, w, eq-eqb (length before) (length l) b, own) (ap (λ (x : List (List ℤ)). mixed 0 (joined x)) (order (legs-of l) ks q))
-  where
-    m : List (List ℤ)
-    m = in-order ks (legs-of l)
+-- what is lent in another order: as many samples, and these legs
+module _ (l : List ℤ) (ks : List ℕ) (w : Whole (length l)) (p : Perm ks (upto (length (legs-of l)))) where
+  each-leg : (k : ℕ) → k < length (in-order ks (legs-of l)) → length (getD (in-order ks (legs-of l)) k []) ≡ 80
+  each-leg k h =
+      let c : k < length ks = omega (arith, length-in-order ks (legs-of l)) in
+      ap length (in-order-at ks (legs-of l) k c) ∙ length-leg l (getD ks k 0) (omega (arith, below (legs-of l) ks p k c, length-legs l))
 
-    q : Perm ks (upto (length (legs-of l)))
-    q = rw length-legs p
+  long : length (joined (in-order ks (legs-of l))) ≡ length l
+  long =
+      let e : length (in-order ks (legs-of l)) ≡ length l / 80 = length-in-order ks (legs-of l) ∙ perm-length p ∙ length-upto (length (legs-of l)) ∙ length-legs l in
+      joined-length (in-order ks (legs-of l)) each-leg ∙ omega (arith, e, w .rest)
 
-    each : (k : ℕ) → k < length m → length (getD m k []) ≡ 80
-    each k h =
-        let c : k < length ks = omega (arith, length-in-order ks (legs-of l)) in
-        ap length (in-order-at ks (legs-of l) k c) ∙ length-leg l (getD ks k 0) (omega (arith, below (legs-of l) ks q k c, length-legs l))
+  own : legs-of (joined (in-order ks (legs-of l))) ≡ in-order ks (legs-of l)
+  own = legs-joined (in-order ks (legs-of l)) each-leg
 
-    own : legs-of (joined m) ≡ m
-    own = legs-joined m each
-
-    long : length (joined m) ≡ length l
-    long =
-        let e : length m ≡ length l / 80 = length-in-order ks (legs-of l) ∙ perm-length p ∙ length-upto (length l / 80) in
-        joined-length m each ∙ omega (arith, e, whole-is (length l) w .rest)
+-- lent in another order, a call that was not refused is not, and its results are those of before in that order
+pub call-order : (l d r again : List ℤ) (ks : List ℕ) → mix-call l d ≡ mixed 0 r → length again ≡ length l → Perm ks (upto (length l / 80))
+    → mix-call (joined (in-order ks (legs-of l))) again ≡ mixed 0 (joined (in-order ks (legs-of r)))
+call-order l d r again ks e b p =
+    let w = done l d r e in
+    let q : Perm ks (upto (length (legs-of l))) = rw length-legs p in
+    let n : refusal (length (joined (in-order ks (legs-of l)))) (length again) ≡ 0 = rw (long l ks (w .whole) q, b) (whole-taken (length l) (w .whole)) in
+    sym (mix-done (joined (in-order ks (legs-of l))) again (joined (in-order ks (legs-of r))) 0 (sym n) refl
+    (rw (legs-results l d r w, own l ks (w .whole) q) (ap joined (sym (order (legs-of l) ks q)))))

@@ -46,7 +46,7 @@ fn without(sum: i32, own: i16) -> i16
     basic_op::sat16(sum - own as i32)
 }
 
-// Adds the leg at a place to the sums of those before it.
+// Adds the leg at a place to the sums of those before it. Its samples are of 16 bits, which bounds the sums of the next turn.
 fn add(total: &mut [i32; FRAME], legs: &[i16], from: usize)
     requires { ⌜ (from + 80 ≤ length (now legs)) × ((length (now total) ≡ 80) × Within 7 (now total)) ⌝ }
     ensures { λ r. ⌜ now (total .exit) ≡ tab 80 (λ i. at (now (total .entry)) i +ℤ at (now (legs .entry)) (from + i)) ⌝ }
@@ -89,7 +89,7 @@ fn each(total: &[i32; FRAME], legs: &[i16], heard: &mut [i16])
     }
 }
 
-// For each leg the sum of all the others. Refusals 19, 7.
+// For each leg the sum of all the others, limited to 16 bits. Refusals 19, 7, which leave `heard` as it was.
 pub fn mix(legs: &[i16], heard: &mut [i16]) -> u32
     ensures { λ r. ⌜ Mixed.mixed r (now (heard .exit)) ≡ mix-call (now (legs .entry)) (now (heard .entry)) ⌝ }
 {

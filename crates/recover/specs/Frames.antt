@@ -10,7 +10,7 @@ use lib.ListN.{length, take, drop, replicate, length-append, length-drop, length
 use lib.Seq.{take-add, take-all, take-at, drop-at, take-set-le, drop-drop, getD-drop}
 use lib.Signed.{mag}
 use borrow.Author.Tests.{ltb-true, ltb-false}
-use Rattle.laws.specs.Lists.{at, tab-at, tab-part}
+use Rattle.laws.specs.Lists.{at, tab-at, tab-part, tab-same}
 use Rattle.laws.specs.Loops.{run, run-out, length-run}
 use Rattle.block.specs.Places.{past-length, tail-length, frame-length, exc-start, speech-start}
 use Rattle.tables.specs.Layout.{b30}
@@ -21,7 +21,7 @@ use Rattle.synth.specs.Laws.{length-excitation, length-reconstruct-speech}
 use Rattle.inverse.specs.Inverse.{inverse, Inside, inside, bounded, subframe-words, frame-words, shrunk, word}
 use Rattle.inverse.specs.Laws.{inside-each}
 use Rattle.inverse.specs.Window.{LeftByOne, LeftByTwo, length-shrunk, length-words, length-frame-words, two-left}
-use Rattle.inverse.specs.Subframe.{tab-same, run-word, sample-word, excitation-words, words-same, reconstruct-inverse, words-fit}
+use Rattle.inverse.specs.Subframe.{run-word, sample-word, excitation-words, words-same, reconstruct-inverse, words-fit}
 use Rattle.state.specs.State.{Signal}
 use Rattle.parameters.specs.declared.Subframe.{Subframe}
 use Rattle.decoder.specs.Frame.{Buffers, frame-buffers, subframe-signal, frame-signal}

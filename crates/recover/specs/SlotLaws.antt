@@ -13,14 +13,13 @@ use lib.IntN.{ℤ, pos, negsuc}
 use lib.ListN.{length, take, drop, replicate, length-append, length-drop, length-take, length-replicate, List·getD-append}
 use lib.Seq.{take-all, drop-at, drop-drop, length-take-le, getD-take, getD-drop, getD-append-add}
 use lib.Signed.{ltZ}
-use Rattle.laws.specs.Lists.{at, at-tab, tab-at}
+use Rattle.laws.specs.Lists.{at, at-tab, tab-at, tab-same}
 use Rattle.laws.specs.Loops.{steps, nowhere, nowhere-each}
 use Rattle.laws.specs.Ints.{most-both}
 use Rattle.block.specs.Block.{part, put}
 use Rattle.block.specs.Laws.{length-part, length-put, front-part, last-part}
 use Rattle.inverse.specs.Inverse.{shrunk-before, window-words}
 use Rattle.inverse.specs.Window.{LeftByTwo, length-shrunk}
-use Rattle.inverse.specs.Subframe.{tab-same}
 use Rattle.state.specs.State.{Signal}
 use Rattle.parameters.specs.declared.Decoded.{Decoded}
 use Rattle.decoder.specs.Frame.{Buffers, frame-signal}
