@@ -1,0 +1,16 @@
+-- `conference_files::heard::write_all` is safe and ends.
+use Prim.Native.Nat.{_-_, _≤_}
+use borrow.Author.Needs.{needs}
+use Rattle.conference_files.proofs.heard.write_all.Statement.{statement}
+use Rattle.conference_files.proofs.heard.write_all.Tie as tie
+
+abbrev Inv-loop : tie.InvT-loop
+Inv-loop names n fds frames held good₀ k₀ good k = k ≤ n
+
+abbrev μ-loop : tie.MeasureT-loop
+μ-loop names n fds frames held good₀ k₀ good k = n - k
+
+pub write-all-spec : {M : Type 1} → statement M
+write-all-spec =
+    tie.close
+    (tie.spec Inv-loop μ-loop (λ c. search needs) (λ c. search needs) (λ c. search needs) (λ c κs. search needs) (λ c. search needs) (λ c. search needs) (λ c. search needs) (λ c. search needs))

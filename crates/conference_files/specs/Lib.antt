@@ -1,0 +1,2 @@
+-- The definitions that the contracts of `conference_files` cite.
+pub mod Held
