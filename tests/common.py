@@ -6,6 +6,7 @@ RESUME = os.path.abspath(os.environ.get("RESUME", os.path.join(ROOT, "target/bin
 COMPARE = os.path.abspath(os.environ.get("COMPARE", os.path.join(ROOT, "target/bin/compare")))
 PAYLOADS = os.path.abspath(os.environ.get("PAYLOADS", os.path.join(ROOT, "target/bin/payloads")))
 G711_LEG = os.path.abspath(os.environ.get("G711_LEG", os.path.join(ROOT, "target/bin/g711_leg")))
+CONFERENCE = os.path.abspath(os.environ.get("CONFERENCE", os.path.join(ROOT, "target/bin/conference")))
 DECODE = os.path.abspath(os.environ.get("DECODE", os.path.join(ROOT, "target/bin/decode")))
 TABLES = os.path.join(ROOT, "examples/tables.g729")
 VERSION = b"holdamek 0.8.0\n"
