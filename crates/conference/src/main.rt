@@ -2,7 +2,7 @@
 ghost use Prim.Native.Nat.{_+_, _≤_};
 ghost use lib.ListN.{length};
 
-const USAGE: [u8; 36] = *b"usage: conference OUT LEG [LEG ...]\n";
+const USAGE: [u8; 51] = *b"usage: conference OUT LEG [LEG ...]  (1 to 8 legs)\n";
 
 // The most words, the most bytes of one, and the bytes of all with a zero byte behind each.
 const WORDS: usize = 9;
@@ -58,7 +58,7 @@ fn main() {
         a,
         b"conference",
         &usage,
-        b"Makes what each leg of a conference heard, the sum of all others: OUT-1.wav for the first leg, OUT-2.wav for the second, and so on,\nlinear PCM of 16 bits, one channel, 8,000 samples a second.\n\n  decode <a.call >a.samples\n  conference monday a.samples mu:b.ul c.wav\n\n  OUT         what the names of the new files begin with\n  LEG         1 to 8, each a file or a pipe:\n                printed samples, as decode and g711_leg read print them\n                a WAV file, A-law or mu-law of 8 bits or linear PCM of 16, one channel, 8,000 a second\n                a:FILE or mu:FILE, G.711 bytes of A-law or mu-law\n  --help      this text\n  --version   the version\n\nLegs may have unlike lengths: one that has ended is silent, and hears the others on. No file is overwritten. Where a leg is refused or a file can't be\nwritten the reason is said on standard error, and no file is left. (written (legs K) (frames N)) is printed at the end.\n",
+        b"Makes what each leg of a conference heard, the sum of all others: OUT-1.wav for the first leg, OUT-2.wav for the second, and so on,\nlinear PCM of 16 bits, one channel, 8,000 samples a second.\n\n  decode <a.call >a.samples\n  conference monday a.samples mu:b.ul c.wav\n\n  OUT         what the names of the new files begin with\n  LEG         1 to 8, each a file or a pipe:\n                printed samples, as decode and g711_leg read print them\n                a WAV file, A-law or mu-law of 8 bits or linear PCM of 16, one channel, 8,000 a second\n                a:FILE or mu:FILE, G.711 bytes of A-law or mu-law\n  --help      this text\n  --version   the version\n\nLegs may have unlike lengths: one that has ended is silent, and still hears the others. Pipes need a writer each. No file is overwritten. Where a leg is refused or a file can't be\nwritten the reason is said on standard error, and no file is left. (written (legs K) (frames N)) is printed at the end; the exit status\nis 0 in any case. Every ten minutes of sound that are done are told on standard error.\n",
     );
     if !done {
         run(words::lesser(a.operands, WORDS));

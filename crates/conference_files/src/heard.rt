@@ -45,7 +45,7 @@ fn unlink(name: &[u8]) {
     }
 }
 
-// Makes what leg k heard, which must be new, with a header that says that its length isn't known yet. Below 0, with a message, where it can't be made, and it is not left where it can't be written.
+// Makes what leg k heard, which must be new, with a header that says more than it will have, so that a file that a killed run leaves is seen to be cut. Below 0, with a message, where it can't be made, and it is not left where it can't be written.
 fn create(names: &[u8], k: usize) -> i32
     requires { ⌜ k < 8 ⌝ }
 {
@@ -56,7 +56,7 @@ fn create(names: &[u8], k: usize) -> i32
         os::fail(&name[0..n]);
         return -1;
     }
-    if put_header(fd, &name[0..n], 0) {
+    if put_header(fd, &name[0..n], MOST) {
         return fd;
     }
     libc::close(fd);

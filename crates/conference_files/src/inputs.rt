@@ -10,6 +10,7 @@ use crate::MOST;
 use crate::SAMPLES;
 use crate::paths;
 use crate::rest;
+use libc::STDERR_FILENO;
 use source::ROOM;
 use source::Source;
 
@@ -61,6 +62,20 @@ fn begun(form: u32, source: Source) -> Leg
         form,
         source,
         next: if source.good { ANY } else { FAILED },
+        lines: 0,
+        samples: 0,
+        more: false,
+    }
+}
+
+// A leg that is refused.
+fn refused(source: Source) -> Leg
+    ensures { λ r. ⌜ (r .source .from ≡ source .from) × (r .source .to ≡ source .to) ⌝ }
+{
+    Leg {
+        form: leg_frame::PRINTED,
+        source,
+        next: FAILED,
         lines: 0,
         samples: 0,
         more: false,
@@ -182,6 +197,10 @@ fn told(given: u32, name: &[u8], input: &[u8], n: usize) -> Leg
     if given == leg_frame::NONE {
         return begun(form, source::raw(n));
     }
+    if form == leg_frame::PRINTED {
+        files::say(name, b"printed samples; give them without a law");
+        return refused(source::raw(n));
+    }
     begun(given, source::raw(n))
 }
 
@@ -193,8 +212,12 @@ fn checked(fd: i32, name: &[u8], l: Leg, input: &mut [u8]) -> Leg
     if l.form != leg_frame::NONE {
         return l;
     }
+    let s = l.source;
+    let empty = s.to == 0;
     let s = source::fill(fd, name, source::unread(), input);
-    if s.good {
+    if s.good & empty {
+        files::say(name, b"empty");
+    } else if s.good {
         files::say(
             name,
             b"neither printed samples nor a WAV file; G.711 bytes are given with their law, as a:FILE or mu:FILE",
@@ -219,6 +242,10 @@ fn open_file(names: &[u8], k: usize) -> i32
     requires { ⌜ k < 8 ⌝ }
 {
     let name = file_name(names, k);
+    if name.len() == 0 {
+        files::say(b"conference", b"no name behind a: or mu:");
+        return -1;
+    }
     let fd = os::open_read(name);
     if fd < 0 {
         os::fail(name);
@@ -282,6 +309,10 @@ fn refuse(names: &[u8], k: usize, line: u32, why: u32)
 {
     let name = file_name(names, k);
     let line = line_step::one_more(line);
+    // The name of a pipe needn't be the one that was typed.
+    io::write_all(STDERR_FILENO, b"leg ");
+    io::print_decimal(STDERR_FILENO, k as u64 + 1);
+    io::write_all(STDERR_FILENO, b", ");
     if why == REFUSED {
         files::say_line(name, line, b"this call was refused when it was decoded");
     } else if why == BEHIND {

@@ -214,7 +214,7 @@ fn count(size: u64, each: u64) -> u64
 }
 
 // The header of a WAV file of one channel, 8,000 samples a second, with this format tag, so many bits a sample and `size` bytes of samples. The length of the file counts the byte that
-// follows an odd number of them. Of a number that doesn't fit its bytes the lowest ones are written; with A-law and mu-law and up to MOST bytes each fits.
+// follows an odd number of them. Of a number that doesn't fit its bytes the lowest ones are written; with A-law, mu-law and linear samples of 16 bits and up to MOST bytes each fits.
 pub fn header(tag: u32, bits: u32, size: u32, out: &mut [u8; HEADER])
     ensures { λ r. ⌜ now (out .exit) ≡ header tag bits size ⌝ }
 {
