@@ -9,7 +9,7 @@ use native.Mathlib.Omega.{arith}
 use lib.Dec.{eqb, leb, eqb·suc-zero}
 use lib.ListN.{length, getD, set, take, length-set, length-map}
 use lib.Seq.{take-suc, take-all, length-take-le, getD-set-same, getD-set-other, ext-getD}
-use borrow.Author.Tests.{eqb-true, eqb-false, ne-eqb, leb-true}
+use borrow.Author.Tests.{eqb-true, eqb-false, ne-eqb, eq-eqb, leb-true, le-leb}
 use Rattle.laws.specs.Lists.{upto, length-upto, map-upto}
 use Rattle.playout.specs.declared.Planned.{Planned}
 use Rattle.playout.specs.declared.Planned.the-variants.{Refused, Lost}
@@ -200,6 +200,10 @@ few f ns ts room e = go (leb f 4096) (leb (length ns) 4096) (below f ns) (eqb ts
     go true true false p q h i j k m z = absurd (omega arith)
     go true false c p q h i j k m z = absurd (omega arith)
     go false b c p q h i j k m z = absurd (omega arith)
+
+pub taken : (f : ℕ) (ns : List ℕ) (ts room : ℕ) → f ≤ 4096 → length ns ≤ 4096 → below f ns ≡ true → ts ≡ length ns → room ≡ f → refusal f ns ts room ≡ 0
+unfolding refusal
+taken f ns ts room a b c e g = rw (le-leb f 4096 a, le-leb (length ns) 4096 b, c, eq-eqb ts (length ns) e, eq-eqb room f g)
 
 -- ---- the call, by its number
 

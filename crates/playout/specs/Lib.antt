@@ -2,4 +2,5 @@
 pub mod Playout
 pub mod Laws
 pub mod Depth
+pub mod Arrivals
 pub mod Least
