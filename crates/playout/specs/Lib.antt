@@ -4,3 +4,4 @@ pub mod Laws
 pub mod Depth
 pub mod Arrivals
 pub mod Least
+pub mod Values

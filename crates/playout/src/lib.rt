@@ -128,7 +128,8 @@ fn refusal(frames: u32, numbers: &[u32], times: usize, room: usize) -> u32
     if !few {
         return 20;
     }
-    if !below(frames, numbers) {
+    let numbered = below(frames, numbers);
+    if !numbered {
         return 21;
     }
     if !equal {
