@@ -2,15 +2,15 @@
 use mathlib.Core.Path.{_≡_, refl, sym, ap, _∙_}
 use mathlib.Core.Bool.{Bool, true, false, cond, _&&_, _||_}
 use mathlib.Core.List.{List, [], _∷_, map}
-use Prim.Native.Nat.{ℕ, zero, suc, _+_, _≤_, _<_}
+use Prim.Native.Nat.{ℕ, suc, _≤_}
 use native.Mathlib.Omega.{arith}
 use lib.Dec.{eqb, leb}
 use lib.ListN.{length, getD}
 use borrow.Author.Tests.{le-leb, leb-true}
 use Rattle.laws.specs.Lists.{upto}
-use Rattle.laws.specs.Loops.{nowhere, nowhere-each, nowhere-all}
+use Rattle.laws.specs.Loops.{nowhere-each, nowhere-all}
 use Rattle.laws.specs.Perm.{Perm, none, keep, swap, then, same, perm-length, perm-each, perm-map}
-use Rattle.playout.specs.declared.Planned.the-variants.{Refused, Lost}
+use Rattle.playout.specs.declared.Planned.the-variants.{Lost}
 use Rattle.playout.specs.Playout.{Arrival, arrivals, due, arrived, kind, kinds, lost, below, answer, refusal, playout}
 use Rattle.playout.specs.Laws.{playout-done, few, taken, done}
 

@@ -2,15 +2,15 @@
 use mathlib.Core.Path.{_≡_, refl, sym, ap, _∙_}
 use mathlib.Core.Bool.{Bool, true, false, cond, _&&_, _||_}
 use mathlib.Core.List.{List, [], _∷_, map}
-use Prim.Native.Nat.{ℕ, zero, suc, _+_, _*_, _≤_, _<_}
+use Prim.Native.Nat.{ℕ, suc, _≤_, _<_}
 use native.Mathlib.Omega.{arith}
 use lib.Dec.{eqb, leb}
 use lib.ListN.{length, getD}
-use borrow.Author.Tests.{le-leb, leb-true, eqb-true}
-use Rattle.laws.specs.Lists.{upto, length-upto, upto-at}
-use Rattle.playout.specs.declared.Planned.the-variants.{Refused, Lost}
-use Rattle.playout.specs.Playout.{Arrival, arrivals, due, arrived, kind, kinds, lost, Answer, answer, refusal, playout}
-use Rattle.playout.specs.Laws.{length-kinds, kinds-at, playout-done, done}
+use borrow.Author.Tests.{le-leb, leb-true}
+use Rattle.laws.specs.Lists.{upto}
+use Rattle.playout.specs.declared.Planned.the-variants.{Lost}
+use Rattle.playout.specs.Playout.{Arrival, arrivals, due, arrived, kind, kinds, lost, answer, playout}
+use Rattle.playout.specs.Laws.{kinds-at, playout-done, done}
 
 or-right : (p q : Bool) → q ≡ true → (p || q) ≡ true
 or-right true q f = refl

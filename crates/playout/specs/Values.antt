@@ -1,6 +1,5 @@
 -- Values of the playout (change request 11): no frames and no arrivals, the last millisecond that is in time, a sum of more than 32 bits, duplicates, and refusals that come first. Assumes nothing.
 use mathlib.Core.Path.{_≡_, refl}
-use mathlib.Core.Bool.{false}
 use mathlib.Core.List.{[], _∷_}
 use Prim.Native.Nat.{ℕ}
 use Rattle.laws.specs.Lists.{upto}

@@ -1,8 +1,8 @@
 // Trying playout depths (change request 11): which frames of a list of arrivals would be played, and how many lost. Times are in milliseconds.
 ghost use mathlib.Core.Path.{_≡_};
 ghost use mathlib.Core.Bool.{cond};
-ghost use Prim.Native.Nat.{_+_, _≤_, _<_, min};
-ghost use lib.Dec.{eqb, leb};
+ghost use Prim.Native.Nat.{_+_, _<_, min};
+ghost use lib.Dec.{eqb};
 ghost use mathlib.Core.List.{map};
 ghost use lib.ListN.{length};
 ghost use Rattle.playout.specs.Playout.{Answer, arrivals, due, kinds, lost, below, refusal, playout, enough, least};
