@@ -9,7 +9,7 @@ use lib.ListN.{length, getD}
 use borrow.Author.Tests.{le-leb, leb-true}
 use Rattle.laws.specs.Lists.{upto}
 use Rattle.laws.specs.Loops.{nowhere-each, nowhere-all}
-use Rattle.laws.specs.Perm.{Perm, none, keep, swap, then, same, perm-length, perm-each, perm-map}
+use Rattle.laws.specs.Perm.{Perm, none, keep, swap, then, same, perm-length, perm-each, perm-map, perm-sym}
 use Rattle.playout.specs.declared.Planned.the-variants.{Lost}
 use Rattle.playout.specs.Playout.{Arrival, arrivals, due, arrived, kind, kinds, lost, below, answer, refusal, playout}
 use Rattle.playout.specs.Laws.{playout-done, few, taken, done}
@@ -56,13 +56,6 @@ twice i by a b l e h = rw e (go (eqb (b .number) i) (leb (a .time) by) refl)
 pub duplicate : (s d n : ℕ) (l m : List Arrival) (a b : Arrival) → Perm l (a ∷ (b ∷ m)) → a .number ≡ b .number → b .time ≤ a .time → kinds s d l n ≡ kinds s d (b ∷ m) n
 duplicate s d n l m a b p e h = order s d n l (a ∷ (b ∷ m)) p ∙ kinds-same s d (a ∷ (b ∷ m)) (b ∷ m) (λ i by. twice i by a b m e h) n
 
--- the other way round
-mirrored : {A : Type 0} {l m : List A} → Perm l m → Perm m l
-mirrored none = none
-mirrored (keep p) = keep (mirrored p)
-mirrored swap = swap
-mirrored (then p q) = then (mirrored q) (mirrored p)
-
 -- ---- the same of the call: in any order its answer is the same, a refusal too
 
 numbers-of : (ns ts : List ℕ) → length ts ≡ length ns → map (λ (a : Arrival). a .number) (arrivals ns ts) ≡ ns
@@ -83,7 +76,7 @@ below-order f ns ms p = go (below f ns) (below f ms) refl refl
     go : (a b : Bool) → below f ns ≡ a → below f ms ≡ b → a ≡ b
     go true true x y = refl
     go false false x y = refl
-    go true false x y = sym (below-one f ms ns (mirrored p) x) ∙ y
+    go true false x y = sym (below-one f ms ns (perm-sym p) x) ∙ y
     go false true x y = sym x ∙ below-one f ns ms p y
 
 pub call-order : (f s d : ℕ) (ns ts ms us before : List ℕ) → length ts ≡ length ns → length us ≡ length ms → Perm (arrivals ns ts) (arrivals ms us)
