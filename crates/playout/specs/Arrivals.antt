@@ -2,17 +2,15 @@
 use mathlib.Core.Path.{_≡_, refl, sym, ap, _∙_}
 use mathlib.Core.Bool.{Bool, true, false, cond, _&&_, _||_}
 use mathlib.Core.List.{List, [], _∷_, map}
-use Prim.Native.Nat.{ℕ, suc, _≤_}
+use Prim.Native.Nat.{ℕ, zero, suc, _≤_, _<_}
 use native.Mathlib.Omega.{arith}
-use lib.Dec.{eqb, leb}
+use lib.Dec.{eqb, leb, eqb·suc-suc}
 use lib.ListN.{length, getD}
 use borrow.Author.Tests.{le-leb, leb-true}
 use Rattle.laws.specs.Lists.{upto}
 use Rattle.laws.specs.Loops.{nowhere-each, nowhere-all}
 use Rattle.laws.specs.Perm.{Perm, none, keep, swap, then, same, perm-length, perm-each, perm-map, perm-sym}
-use Rattle.playout.specs.declared.Planned.the-variants.{Lost}
-use Rattle.playout.specs.Playout.{Arrival, arrivals, due, arrived, kind, kinds, lost, below, answer, refusal, playout}
-use Rattle.playout.specs.Laws.{playout-done, few, taken, done}
+use Rattle.playout.specs.Playout.{Arrival, arrivals, due, arrived, kind, kinds, below, refusal, playout}
 
 -- ---- any order
 
@@ -52,11 +50,11 @@ twice i by a b l e h = rw e (go (eqb (b .number) i) (leb (a .time) by) refl)
     go true false f = refl
     go false q f = refl
 
--- an arrival of a frame that has another no later, wherever the two stand
+-- an arrival of a frame that has another no later can be left out, wherever the two stand
 pub duplicate : (s d n : ℕ) (l m : List Arrival) (a b : Arrival) → Perm l (a ∷ (b ∷ m)) → a .number ≡ b .number → b .time ≤ a .time → kinds s d l n ≡ kinds s d (b ∷ m) n
 duplicate s d n l m a b p e h = order s d n l (a ∷ (b ∷ m)) p ∙ kinds-same s d (a ∷ (b ∷ m)) (b ∷ m) (λ i by. twice i by a b m e h) n
 
--- ---- the same of the call: in any order its answer is the same, a refusal too
+-- ---- the same of the call with as many times as numbers: in any order its answer is the same, a refusal too
 
 numbers-of : (ns ts : List ℕ) → length ts ≡ length ns → map (λ (a : Arrival). a .number) (arrivals ns ts) ≡ ns
 unfolding arrivals
@@ -86,20 +84,34 @@ call-order f s d ns ts ms us before e g p =
     let q : Perm ns ms = rw (numbers-of ns ts e, numbers-of ms us g) at (perm-map (λ (a : Arrival). a .number) p) in
     rw (below-order f ns ms q, perm-length q, e ∙ perm-length q, g, order s d f (arrivals ns ts) (arrivals ms us) p)
 
--- the numbers behind the first
-below-rest : (f n : ℕ) (ns : List ℕ) → below f (n ∷ ns) ≡ true → below f ns ≡ true
+-- a number twice is below the frame count where it is once
+below-first : (f n : ℕ) (ns : List ℕ) → below f (n ∷ ns) ≡ true → below f (n ∷ (n ∷ ns)) ≡ true
 unfolding below
-below-rest f n ns e = nowhere-all (λ k. leb f (getD ns k 0)) (length ns) (λ k h. nowhere-each (λ k. leb f (getD (n ∷ ns) k 0)) (suc (length ns)) (suc k) e (omega arith))
+below-first f n ns e = nowhere-all (λ k. leb f (getD (n ∷ (n ∷ ns)) k 0)) (suc (suc (length ns))) go
+  where
+    go : (k : ℕ) → k < suc (suc (length ns)) → leb f (getD (n ∷ (n ∷ ns)) k 0) ≡ false
+    go zero h = nowhere-each (λ k. leb f (getD (n ∷ ns) k 0)) (suc (length ns)) 0 e (omega arith)
+    go (suc k) h = nowhere-each (λ k. leb f (getD (n ∷ ns) k 0)) (suc (length ns)) k e (omega arith)
 
--- a duplicate that is left out of a call that was not refused: the answer is the same
-pub call-duplicate : (f s d n t u : ℕ) (ns ts before : List ℕ) (m : ℕ) (ks : List ℕ) → playout f s d (n ∷ (n ∷ ns)) (u ∷ (t ∷ ts)) before ≡ answer (Lost m) ks → t ≤ u
-    → playout f s d (n ∷ ns) (t ∷ ts) before ≡ answer (Lost m) ks
-unfolding arrivals
-call-duplicate f s d n t u ns ts before m ks e h =
-    let w = done f s d (n ∷ (n ∷ ns)) (u ∷ (t ∷ ts)) before m ks e in
-    let k = few f (n ∷ (n ∷ ns)) (length (u ∷ (t ∷ ts))) (length before) (w .0) in
+below-rest : (f n : ℕ) (ns : List ℕ) → below f (n ∷ (n ∷ ns)) ≡ true → below f (n ∷ ns) ≡ true
+unfolding below
+below-rest f n ns e = nowhere-all (λ k. leb f (getD (n ∷ ns) k 0)) (suc (length ns)) (λ k h. nowhere-each (λ k. leb f (getD (n ∷ (n ∷ ns)) k 0)) (suc (suc (length ns))) (suc k) e (omega arith))
+
+below-twice : (f n : ℕ) (ns : List ℕ) → below f (n ∷ (n ∷ ns)) ≡ below f (n ∷ ns)
+below-twice f n ns = go (below f (n ∷ (n ∷ ns))) (below f (n ∷ ns)) refl refl
+  where
+    go : (a b : Bool) → below f (n ∷ (n ∷ ns)) ≡ a → below f (n ∷ ns) ≡ b → a ≡ b
+    go true true x y = refl
+    go false false x y = refl
+    go true false x y = sym (below-rest f n ns x) ∙ y
+    go false true x y = sym x ∙ below-first f n ns y
+
+-- a duplicate changes nothing of a call that has room for it, a refusal neither; with `call-order`, wherever the two stand
+pub call-duplicate : (f s d n t u : ℕ) (ns ts before : List ℕ) → t ≤ u → suc (suc (length ns)) ≤ 4096
+    → playout f s d (n ∷ (n ∷ ns)) (u ∷ (t ∷ ts)) before ≡ playout f s d (n ∷ ns) (t ∷ ts) before
+unfolding playout refusal arrivals
+call-duplicate f s d n t u ns ts before h k =
     let a : Arrival = record { number = n; time = u } in
     let b : Arrival = record { number = n; time = t } in
     let q : kinds s d (a ∷ (b ∷ arrivals ns ts)) f ≡ kinds s d (b ∷ arrivals ns ts) f = duplicate s d f (a ∷ (b ∷ arrivals ns ts)) (arrivals ns ts) a b (same (a ∷ (b ∷ arrivals ns ts))) refl h in
-    let z : refusal f (n ∷ ns) (length (t ∷ ts)) (length before) ≡ 0 = taken f (n ∷ ns) (length (t ∷ ts)) (length before) (k .0) (omega (arith, k .1)) (below-rest f n (n ∷ ns) (k .2)) (omega (arith, k .3)) (k .4) in
-    sym (playout-done f s d (n ∷ ns) (t ∷ ts) before 0 (sym z) refl m ks (w .2 ∙ q) (w .1 ∙ ap lost (sym (w .2))))
+    rw (q, below-twice f n ns, le-leb (suc (suc (length ns))) 4096 k, le-leb (suc (length ns)) 4096 (omega arith), eqb·suc-suc (suc (length ts)) (suc (length ns)))
