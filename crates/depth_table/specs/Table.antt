@@ -2,7 +2,7 @@
 use mathlib.Core.Bool.{cond}
 use mathlib.Core.List.{List, [], _∷_, _++_}
 use Prim.Native.Nat.{ℕ, _+_, _-_, _*_, _/_, _%_, min, max}
-use lib.Dec.{eqb, ltb}
+use lib.Dec.{eqb}
 use lib.ListN.{length}
 use Rattle.text.specs.Text.{ascii}
 use Rattle.print.specs.Print.{figure}
@@ -26,10 +26,6 @@ lowest (n ∷ ns) (t ∷ ts) = min (began n t) (lowest ns ts)
 unfoldable pub earliest : List ℕ → List ℕ → ℕ
 earliest ns ts = cond (eqb (min (length ns) (length ts)) 0) 0 (lowest ns ts)
 
--- how many frames so many percent are, at most all
-unfoldable pub share : ℕ → ℕ → ℕ
-share percent of = min of (percent * of / 100)
-
 -- ---- the lines
 
 -- hundredths of a percent, 0 where there are no frames
@@ -40,13 +36,16 @@ hundredths lost of = cond (eqb of 0) 0 (10000 * min lost of / of)
 unfoldable pub two : ℕ → List ℕ
 two n = (48 + n / 10 % 10) ∷ (48 + n % 10) ∷ []
 
+-- a blank and the percentage
+unfoldable pub percent : ℕ → List ℕ
+percent h = figure (ascii " ") (h / 100) ++ ascii "." ++ two h ++ ascii "\n"
+
 unfoldable pub heading : ℕ → ℕ → ℕ → List ℕ
 heading of arrivals start =
     figure (ascii "# frames ") of ++ figure (ascii ", arrivals ") arrivals ++ figure (ascii ", start ") start ++ ascii "\n# depth lost percent\n"
 
 unfoldable pub row : ℕ → ℕ → ℕ → List ℕ
-row depth lost of =
-    figure (ascii "") depth ++ figure (ascii " ") lost ++ figure (ascii " ") (hundredths lost of / 100) ++ ascii "." ++ two (hundredths lost of) ++ ascii "\n"
+row depth lost of = figure (ascii "") depth ++ figure (ascii " ") lost ++ percent (hundredths lost of)
 
 -- the least depth at which no more than the wanted number is lost, and where there is none
 unfoldable pub least : ℕ → ℕ → List ℕ

@@ -4,7 +4,7 @@ ghost use Prim.Native.Nat.{_+_, _-_, _*_, _/_, _%_, _≤_, _<_, min, max};
 ghost use lib.ListN.{length};
 ghost use Rattle.print.specs.Print.{over};
 ghost use Rattle.text.specs.Text.{Put};
-ghost use Rattle.depth_table.specs.Table.{frames, began, earliest, share, hundredths, two, row, heading, least, never};
+ghost use Rattle.depth_table.specs.Table.{frames, began, earliest, hundredths, two, percent, heading, row, least, never};
 use print::figure;
 use print::put;
 
@@ -82,16 +82,6 @@ pub fn earliest(numbers: &[u32], times: &[u32]) -> u32
     at
 }
 
-// How many frames so many percent are, at most all.
-pub fn share(percent: u32, of: u32) -> u32
-    ensures { λ r. ⌜ r ≡ share percent of ⌝ }
-{
-    if 100 < percent {
-        return of;
-    }
-    (wide(percent) * wide(of) / 100) as u32
-}
-
 // ---- the lines. Each is at the front of lent bytes: its length is answered, and the bytes behind it are as they were.
 
 // Hundredths of a percent; `lost` is at most all frames.
@@ -114,6 +104,17 @@ fn two(n: u32, from: usize, out: &mut [u8]) -> usize
     from + 2
 }
 
+// A blank, the percentage with two decimals, and the line feed.
+fn percent(h: u32, from: usize, out: &mut [u8]) -> usize
+    requires { ⌜ from + 15 ≤ length (now out) ⌝ }
+    ensures { λ r. ⌜ (r ≤ from + 15) × Put (percent h) from (now (out .entry)) r (now (out .exit)) ⌝ }
+{
+    let a = figure(b" ", h / 100, from, out);
+    let b = put(b".", a, out);
+    let c = two(h, b, out);
+    put(b"\n", c, out)
+}
+
 // `# frames N, arrivals M, start S` and `# depth lost percent`.
 pub fn heading(of: u32, arrivals: u32, start: u32, out: &mut [u8; ROOM]) -> usize
     ensures { λ r. ⌜ (r ≤ 80) × ((r ≡ length (heading of arrivals start)) × (now (out .exit) ≡ over (heading of arrivals start) (now (out .entry)))) ⌝ }
@@ -131,10 +132,7 @@ pub fn row(depth: u32, lost: u32, of: u32, out: &mut [u8; ROOM]) -> usize
     let h = hundredths(lost, of);
     let a = figure(b"", depth, 0, out);
     let b = figure(b" ", lost, a, out);
-    let c = figure(b" ", h / 100, b, out);
-    let d = put(b".", c, out);
-    let e = two(h, d, out);
-    put(b"\n", e, out)
+    percent(h, b, out)
 }
 
 // `# least D: at most N frames are lost`.

@@ -1,52 +1,29 @@
+-- `depth_table::hundredths` meets its contract.
+use native.Mathlib.Omega.{arith}
 use borrow.Author.Needs.{needs}
+use borrow.Author.Tests.{eq-eqb, ne-eqb}
+use Rattle.depth_table.specs.Table.{hundredths}
+use Rattle.depth_table.specs.Laws.{at-most-all}
 use Rattle.depth_table.proofs.hundredths.Statement.{statement}
 use Rattle.depth_table.proofs.hundredths.Tie as tie
-use Rattle.depth_table.proofs.hundredths.Reads as reads
-use Rattle.depth_table.proofs.hundredths.Lts as lts
-use Rattle.depth_table.proofs.lesser.Reads as lesser-reads
-use Rattle.depth_table.proofs.wide.Reads as wide-reads
 
--- src/lib.rt:102:9
 returns : tie.Need-returns
-returns c = ?
+unfolding hundredths
+returns c = rw (eq-eqb _ _ (c .if1 .taken))
 
--- src/lib.rt:104:19
-lesser-requires : tie.Need-lesser-requires
-lesser-requires c κs = search needs
-
--- src/lib.rt:104:14
-wide-requires : tie.Need-wide-requires
-wide-requires c κs = search needs
-
--- src/lib.rt:104:6
-mul-result : tie.Need-mul-result
-mul-result c = search needs
-
--- src/lib.rt:104:39
-wide-requires-2 : tie.Need-wide-requires-2
-wide-requires-2 c κs = search needs
-
--- src/lib.rt:104:6
-div-result : tie.Need-div-result
-div-result c = search needs
-
--- src/lib.rt:104:5
 cast-result : tie.Need-cast-result
-cast-result c = ?
+cast-result c =
+    let s = c .before .before .before .before in
+    rw (c .wide2 .ensures .0, c .before .wide .ensures .0, c .before .before .lesser .ensures) (record { fits = omega (arith, at-most-all (s .args .lost) (s .args .of)) })
 
--- src/lib.rt:98:1
 returns-2 : tie.Need-returns-2
-returns-2 c = ?
+unfolding hundredths
+returns-2 c =
+    let w = c .before in
+    let l = w .before in
+    rw (ne-eqb _ _ (l .before .if1 .left), c .wide2 .ensures .0, w .wide .ensures .0, l .lesser .ensures)
 
 pub hundredths-spec : {M : Type 1} → statement M
 hundredths-spec =
     tie.close
-    (tie.spec
-    returns
-    lesser-requires
-    wide-requires
-    mul-result
-    wide-requires-2
-    div-result
-    cast-result
-    returns-2)
+    (tie.spec returns (λ c κs. search needs) (λ c κs. search needs) (λ c. search needs) (λ c κs. search needs) (λ c. search needs) cast-result returns-2)
