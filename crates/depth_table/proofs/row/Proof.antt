@@ -13,7 +13,7 @@ returns c =
     let g = c .before .before in
     let f = g .before .before .before in
     let h = f .before .before .before in
-    (omega (arith, f .figure .ensures .0, g .figure2 .ensures .0, c .percent .ensures .0), rw (← h .hundredths .ensures) (front (then (then (f .figure .ensures .1) (g .figure2 .ensures .1)) (c .percent .ensures .1))))
+    (omega (arith, f .figure .ensures .0, g .figure2 .ensures .0, c .percent .ensures .0), front (then (then (f .figure .ensures .1) (g .figure2 .ensures .1)) (rw (h .hundredths .ensures) at (c .percent .ensures .1))))
 
 pub row-spec : {M : Type 1} → statement M
 row-spec =

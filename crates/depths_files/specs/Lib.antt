@@ -1,0 +1,3 @@
+-- What the contracts of `depths_files` cite.
+pub mod Held
+pub mod Rows
