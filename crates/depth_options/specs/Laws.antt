@@ -2,7 +2,7 @@
 use mathlib.Core.Path.{_≡_, refl, sym, _∙_}
 use mathlib.Core.Bool.{Bool, true, false, cond, not, _&&_, _||_}
 use mathlib.Core.List.{List, [], _∷_}
-use Prim.Native.Nat.{ℕ, _-_, _*_, _^_, _≤_, _<_}
+use Prim.Native.Nat.{ℕ, _-_, _*_, _^_, _<_}
 use native.Mathlib.Omega.{arith}
 use native.Mathlib.Nat.{mul-le-mul}
 use lib.Dec.{eqb}
@@ -15,7 +15,7 @@ choose true true b = refl
 choose true false b = refl
 choose false a b = refl
 
--- a percentage has a byte
+-- a text of no byte is no percentage
 pub no-byte : (option : ℕ) (l : List ℕ) → length l ≡ 0 → is-percent option l ≡ false
 unfolding is-percent
 no-byte option [] h = by (eqb option lost)
@@ -25,6 +25,7 @@ no-byte option [] h = by (eqb option lost)
     by false = refl
 no-byte option (b ∷ l) h = absurd (omega arith)
 
+-- so a percentage has a byte
 pub some-byte : (option : ℕ) (l : List ℕ) → is-percent option l ≡ true → 0 < length l
 some-byte option [] e = let f : _≡_ {A = Bool} false true = sym (no-byte option [] refl) ∙ e in let z : _≡_ {A = ℕ} 0 1 = cc in absurd (omega arith)
 some-byte option (b ∷ l) e = omega arith

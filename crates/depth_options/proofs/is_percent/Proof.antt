@@ -1,6 +1,5 @@
 -- `depth_options::is_percent` meets its contract: each test picks its case of the definition.
 use mathlib.Core.Path.{sym}
-use native.Mathlib.Omega.{arith}
 use borrow.Author.Needs.{needs}
 use borrow.Author.Tests.{eq-eqb, ne-eqb}
 use Rattle.depth_options.specs.DepthOptions.{is-percent}

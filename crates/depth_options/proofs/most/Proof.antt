@@ -1,5 +1,4 @@
 -- `depth_options::most` meets its contract: the test picks its case of the definition.
-use native.Mathlib.Omega.{arith}
 use borrow.Author.Needs.{needs}
 use Rattle.depth_options.specs.DepthOptions.{most}
 use Rattle.depth_options.specs.Laws.{product}
