@@ -5,11 +5,10 @@ use Prim.Native.Nat.{ℕ, suc}
 use lib.Dec.{eqb, leb}
 use lib.ListN.{take, drop}
 use Rattle.print.specs.Laws.{read as value}
-use Rattle.arrival_line.specs.declared.Arrival.{Arrival}
 use Rattle.arrival_line.specs.declared.Decimal.{Decimal}
 use Rattle.arrival_line.specs.declared.Decimal.the-variants.{None, Value}
 use Rattle.arrival_line.specs.declared.Line.{Line}
-use Rattle.arrival_line.specs.declared.Line.the-variants.{Refused, Arrival as Told}
+use Rattle.arrival_line.specs.declared.Line.the-variants.{Refused, Arrival}
 
 -- ---- a number
 
@@ -40,7 +39,7 @@ front (b ∷ l) = cond (separates b) 0 (suc (front l))
 unfoldable pub both : Decimal → Decimal → Line
 both None t = Refused
 both (Value n) None = Refused
-both (Value n) (Value t) = Told (record { number = n; time = t })
+both (Value n) (Value t) = Arrival (record { number = n; time = t })
 
 -- a number in front of the first separator, and a number behind it
 unfoldable pub read : List ℕ → Line

@@ -46,7 +46,7 @@ returns-3 : tie.Need-returns-3 Inv-loop μ-loop
 returns-3 c =
     let l = c .before .before .before .before .before in
     let t = l .before .before .before .args .text .now in
-    number-over t (l .loop .i) (l .loop .n) (omega arith) (l .loop .inv .2) (l .loop .inv .3) (c .if3 .taken)
+    number-over t (l .loop .i) (l .loop .n) (omega arith) (l .loop .inv .2) (l .loop .inv .3) (omega arith)
 
 loop-again : tie.Need-loop-again Inv-loop μ-loop
 loop-again c =
@@ -54,7 +54,7 @@ loop-again c =
     let l = q .before .before .before in
     let t = l .before .before .before .args .text .now in (
       search needs,
-      c .if3 .left,
+      omega arith,
       l .loop .inv .2 ∙ all-goes t (l .loop .i) (omega arith) (sym (q .is-digit .ensures) ∙ not-false _ (c .before .if2 .left)),
       l .loop .inv .3 ∙ value-goes t (l .loop .i) (omega arith) (l .loop .n),
     )
