@@ -1,6 +1,5 @@
 // The program `depths`: how many frames of a text of arrivals would be lost at each playout depth (change request 11). Crate depths_files does the work; here are the words of the command line.
 ghost use Prim.Native.Nat.{_≤_};
-
 use depth_options::Wanted;
 use libc::STDERR_FILENO;
 use options::Asked;
@@ -61,11 +60,20 @@ fn arguments() -> Both {
 // What an option takes, in words.
 fn why(option: u32) {
     if option == depth_options::FRAMES {
-        files::say(b"depths", b"--frames takes a number of frames, at most 360,000");
+        files::say(
+            b"depths",
+            b"--frames takes a number of frames, at most 360,000",
+        );
     } else if option == depth_options::START {
-        files::say(b"depths", b"--start takes a time in milliseconds, at most 4294967295");
+        files::say(
+            b"depths",
+            b"--start takes a time in milliseconds, at most 4294967295",
+        );
     } else if option == depth_options::TO {
-        files::say(b"depths", b"--to takes a depth in milliseconds, at most 4294967295");
+        files::say(
+            b"depths",
+            b"--to takes a depth in milliseconds, at most 4294967295",
+        );
     } else if option == depth_options::STEP {
         files::say(
             b"depths",

@@ -4,7 +4,7 @@ use mathlib.Core.List.{List}
 use Prim.Native.Nat.{ℕ, min}
 use Rattle.playout.specs.declared.Found.{Found}
 use Rattle.playout.specs.declared.Found.the-variants.{Never, Depth}
-use Rattle.playout.specs.Playout.{Arrival, Answer, answer, kinds, lost} 
+use Rattle.playout.specs.Playout.{Arrival, Answer, answer, kinds, lost}
 use Rattle.playout.specs.Playout.{least as found}
 use Rattle.depth_options.specs.declared.Wanted.{Wanted}
 use Rattle.depth_table.specs.Table.{earliest, row, least, never}

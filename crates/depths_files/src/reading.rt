@@ -68,13 +68,7 @@ fn taken(w: Wanted, a: Arrival, behind: usize, numbers: &mut [u32], times: &mut 
 }
 
 // What follows a line, without its line feed, behind so many arrivals.
-fn read_line(
-    w: Wanted,
-    line: &[u8],
-    behind: usize,
-    numbers: &mut [u32],
-    times: &mut [u32],
-) -> u32
+fn read_line(w: Wanted, line: &[u8], behind: usize, numbers: &mut [u32], times: &mut [u32]) -> u32
     requires { ⌜ (length (now numbers) ≡ 360000) × (length (now times) ≡ 360000) ⌝ }
 {
     let read = arrival_line::read(line);
@@ -89,10 +83,10 @@ fn more(behind: usize, next: u32) -> usize
     requires { ⌜ behind ≤ 360000 ⌝ }
     ensures { λ r. ⌜ r ≤ 360000 ⌝ }
 {
-    if (next == GO) & (behind < MOST) {
-        return behind + 1;
+    if MOST <= behind {
+        return behind;
     }
-    behind
+    if next == GO { behind + 1 } else { behind }
 }
 
 // What follows where no whole line is at hand and none can be read.

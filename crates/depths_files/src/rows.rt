@@ -98,13 +98,7 @@ fn print_heading(of: usize, arrivals: usize, start: u32) -> bool {
 }
 
 // Prints the row of a depth.
-fn print_row(
-    start: u32,
-    depth: u32,
-    numbers: &[u32],
-    times: &[u32],
-    kinds: &mut [u32],
-) -> bool
+fn print_row(start: u32, depth: u32, numbers: &[u32], times: &[u32], kinds: &mut [u32]) -> bool
     requires { ⌜ length (now kinds) ≤ 360000 ⌝ }
 {
     let mut out = [0u8; ROOM];

@@ -2,7 +2,6 @@
 // behind it what comes of it (oracle/depths writes the runs, the texts and what must be printed).
 ghost use Prim.Native.Nat.{_<_, _≤_};
 ghost use lib.ListN.{length};
-
 use depth_options::Wanted;
 use libc::STDIN_FILENO;
 use libc::STDOUT_FILENO;
