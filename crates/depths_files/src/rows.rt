@@ -117,7 +117,7 @@ fn print_last(start: u32, most: u32, numbers: &[u32], times: &[u32], kinds: &mut
 
 // The depth a step further, where the table has it. A step of 0 leads to none.
 fn following(depth: u32, to: u32, step: u32) -> Next {
-    if (step == 0) | (to < depth) {
+    if to < depth {
         return Next { depth, more: false };
     }
     if to - depth < step {
@@ -125,7 +125,7 @@ fn following(depth: u32, to: u32, step: u32) -> Next {
     }
     Next {
         depth: depth + step,
-        more: true,
+        more: step != 0,
     }
 }
 
@@ -158,9 +158,10 @@ fn print_table(w: Wanted, numbers: &[u32], times: &[u32], kinds: &mut [u32])
 {
     let at = start(w, numbers, times);
     let most = narrow(depth_options::most(w, kinds.len() as u32));
-    if print_heading(kinds.len(), numbers.len(), at)
-        && print_rows(at, w.to, w.step, numbers, times, kinds)
-    {
+    if !print_heading(kinds.len(), numbers.len(), at) {
+        return;
+    }
+    if print_rows(at, w.to, w.step, numbers, times, kinds) {
         print_last(at, most, numbers, times, kinds);
     }
 }

@@ -29,7 +29,7 @@ fn word(w: Wanted, line: &[u8], from: usize) -> Place
     ensures { λ r. ⌜ (from < r .at) × (r .at ≤ length (now (line .entry))) ⌝ }
 {
     let to = bytes::scan::find(line, from, line.len(), b' ');
-    let at = if to < line.len() { to + 1 } else { to };
+    let at = words::lesser(to + 1, line.len());
     if depth_options::takes(w, &line[from..to]) {
         let wanted = depth_options::next(w, &line[from..to]);
         return Place { wanted, at };
@@ -57,7 +57,7 @@ fn line(text: &[u8], from: usize) -> usize
 {
     let to = bytes::scan::find(text, from, text.len(), 10);
     run(&text[from..to]);
-    if to < text.len() { to + 1 } else { to }
+    words::lesser(to + 1, text.len())
 }
 
 fn runs(text: &[u8]) {
