@@ -1,13 +1,16 @@
--- Laws of the rows: the lost frames of an hour or less are a number of 32 bits, and the last line by the least depth. Assumes nothing.
-use mathlib.Core.Path.{_≡_, sym, ap}
-use mathlib.Core.List.{List}
+-- Laws of the rows: the lost frames of an hour or less are a number of 32 bits, the last line by the least depth, and that the frames lost at the greatest depth never arrived. Assumes nothing.
+use mathlib.Core.Path.{_≡_, refl, ap}
+use mathlib.Core.Bool.{Bool, true, false, _&&_, _||_}
+use mathlib.Core.List.{List, [], _∷_}
 use Prim.Native.Nat.{ℕ, _≤_}
+use lib.Dec.{eqb, leb}
+use borrow.Author.Tests.{leb-true, le-leb}
 use native.Mathlib.Omega.{arith}
 use mir.Syntax.{w32}
 use mir.Val.{Fits}
 use Rattle.playout.specs.declared.Found.{Found}
 use Rattle.playout.specs.declared.Found.the-variants.{Never, Depth}
-use Rattle.playout.specs.Playout.{Arrival, Answer, answer, kinds, lost, enough, first, tried}
+use Rattle.playout.specs.Playout.{Arrival, Answer, answer, due, arrived, kinds, lost, enough, first, tried}
 use Rattle.playout.specs.Playout.{least as found}
 use Rattle.playout.specs.Laws.{length-kinds, lost-most}
 use Rattle.depth_table.specs.Table.{least, never}
@@ -35,3 +38,30 @@ module _ (s m : ℕ) (l : List Arrival) (n : ℕ) (f : Found) (ks : List ℕ) (e
   pub last-depth : (d : ℕ) → f ≡ Depth d → last s m l n ≡ least d m
   unfolding last told
   last-depth d g = rw (← e, g)
+
+-- ---- the greatest depth
+
+-- an arrival has this number, at whatever time
+unfoldable pub came : ℕ → List Arrival → Bool
+came i [] = false
+came i (a ∷ l) = eqb (a .number) i || came i l
+
+-- the times are of 32 bits
+unfoldable pub timed : List Arrival → Bool
+timed [] = true
+timed (a ∷ l) = leb (a .time) 4294967295 && timed l
+
+-- all that came is played there, so that what is lost never arrived
+pub deepest : (s i : ℕ) (l : List Arrival) → timed l ≡ true → arrived i (due s 4294967295 i) l ≡ came i l
+unfolding arrived came timed
+deepest s i [] h = refl
+deepest s i (a ∷ l) h = by (leb (a .time) 4294967295) refl h (deepest s i l)
+  where
+    by : (p : Bool) → leb (a .time) 4294967295 ≡ p → p && timed l ≡ true → (timed l ≡ true → arrived i (due s 4294967295 i) l ≡ came i l)
+        → (eqb (a .number) i && leb (a .time) (due s 4294967295 i)) || arrived i (due s 4294967295 i) l ≡ eqb (a .number) i || came i l
+    by false e h g = let z : _≡_ {A = Bool} false true = h in cc
+    by true e h g = rw (le-leb (a .time) (due s 4294967295 i) (omega (arith, leb-true (a .time) 4294967295 e)), g h) (both (eqb (a .number) i))
+      where
+        both : (q : Bool) → (q && true) || came i l ≡ q || came i l
+        both true = refl
+        both false = refl
