@@ -1,5 +1,5 @@
 /* Holdamek: the six operations of a G.729 voice path, the writing of lines and of voice frames, the frames of an RTP payload, G.711 legs, what each leg of a
- * conference heard, the agreement of two decoders and the comparison with a far one, as C functions (x86-64 Linux; C99 or later, C++).
+ * conference heard, the trying of playout depths, the agreement of two decoders and the comparison with a far one, as C functions (x86-64 Linux; C99 or later, C++).
  * `rt staticlib holdamek` makes target/staticlib/libholdamek.a:  cc -Iinclude program.c target/staticlib/libholdamek.a
  * Installed (`make install`):  cc program.c $(pkg-config --cflags --libs holdamek)
  *
@@ -10,8 +10,8 @@
  * of stack are enough (5.3 KB were measured for holdamek_frame).
  *
  * A length counts elements, not bytes. A wrong length is refused before the memory is touched; so NULL with length 0 is refused where
- * another length is due, and is right for the payload of HOLDAMEK_NO_TRANSMISSION and HOLDAMEK_ERASED, and for the bytes and samples of an
- * empty G.711 leg. The bytes of an RTP payload are never read; NULL is right for an empty one.
+ * another length is due, and is right for the payload of HOLDAMEK_NO_TRANSMISSION and HOLDAMEK_ERASED, for the bytes and samples of an
+ * empty G.711 leg, and for the lists of no arrivals and the kinds of no frames. The bytes of an RTP payload are never read; NULL is right for an empty one.
  *
  * What no function can notice, and the caller sees to: a pointer with a right length that isn't 0 isn't NULL and points to that much memory of its type;
  * `kind`, `frames`, `lost`, `length`, `agreement`, `what`, `number` and `rest` are never NULL; and what is lent for writing overlaps nothing else that is lent in the
@@ -23,9 +23,9 @@
 #include <stdint.h>
 
 /* The version of header and library; the shared library has the first number in its name. */
-#define HOLDAMEK_VERSION "0.8.0"
+#define HOLDAMEK_VERSION "0.9.0"
 #define HOLDAMEK_VERSION_MAJOR 0
-#define HOLDAMEK_VERSION_MINOR 8
+#define HOLDAMEK_VERSION_MINOR 9
 #define HOLDAMEK_VERSION_PATCH 0
 
 #ifdef __cplusplus
@@ -44,7 +44,8 @@ enum holdamek_size {
     HOLDAMEK_SHORTEST_LINE = 14,      /* characters of the shortest line, without its line feed */
     HOLDAMEK_LONGEST_LINE = 36,       /* characters of the longest line, without its line feed */
     HOLDAMEK_MOST_FRAMES = 360000,    /* frames of a call at most */
-    HOLDAMEK_MOST_LEGS = 8            /* legs of a conference at most */
+    HOLDAMEK_MOST_LEGS = 8,           /* legs of a conference at most */
+    HOLDAMEK_MOST_PLAYOUT = 4096      /* frames, and arrivals, that a playout depth is tried on at most */
 };
 
 /* Kinds of frames. 1 to 3 are concealed like losses. */
@@ -109,7 +110,7 @@ enum holdamek_refusal {
     HOLDAMEK_STATE_VALUES = 4,        /* in the state block, or in the memory of a comparison, the predictor isn't 0 or 1, or the delay is outside 19..144 */
     HOLDAMEK_KIND_ABOVE_3 = 5,        /* there is no such kind of frame */
     HOLDAMEK_PAYLOAD_LENGTH = 6,      /* the payload isn't 10, 2, 0, 0 bytes for kinds 0 to 3; for fields and their writing: not ten bytes */
-    HOLDAMEK_OUTPUT_LENGTH = 7,       /* the output isn't 80 words, or there aren't 80 far samples; for the writing of a line: not 36 bytes; for G.711: not as many bytes as samples; for what legs heard: not as many samples as the legs have */
+    HOLDAMEK_OUTPUT_LENGTH = 7,       /* the output isn't 80 words, or there aren't 80 far samples; for the writing of a line: not 36 bytes; for G.711: not as many bytes as samples; for what legs heard: not as many samples as the legs have; for a playout depth: not as many times as numbers, or not as many kinds as frames */
     HOLDAMEK_RECEIVER_LENGTH = 8,     /* the receiver of fields isn't 15 numbers; for the writing of fields: there are not 15, or not 14 without P0 */
     HOLDAMEK_LINE_FORM = 9,           /* the line isn't one of the four forms */
     HOLDAMEK_COUNT_LIMIT = 10,        /* a count is 360,000 or more already */
@@ -119,7 +120,9 @@ enum holdamek_refusal {
     HOLDAMEK_FIELD_WIDTH = 15,        /* a field exceeds its width */
     HOLDAMEK_OTHER_LAW = 16,          /* the law is neither 1 nor 2 */
     HOLDAMEK_NO_TABLE_VALUE = 17,     /* a sample isn't a table value of the law: no byte is read as it */
-    HOLDAMEK_LEGS_LENGTH = 19         /* the legs of a conference aren't 80, 160, .. or 640 samples, a frame of each of 1 to 8 legs */
+    HOLDAMEK_LEGS_LENGTH = 19,        /* the legs of a conference aren't 80, 160, .. or 640 samples, a frame of each of 1 to 8 legs */
+    HOLDAMEK_PLAYOUT_LIMIT = 20,      /* there are more than 4,096 frames, or more than 4,096 arrivals */
+    HOLDAMEK_ARRIVAL_NUMBER = 21      /* an arrival's number isn't below the number of frames */
 };
 
 /* How many frames an RTP payload has. */
@@ -187,6 +190,13 @@ uint32_t holdamek_g711_write(uint32_t law, const int16_t *samples, size_t sample
  * G.729; `heard`, which doesn't overlap it, gets as many, in the order of the legs: at each place the sum of all other legs' samples, limited to -32768..32767. Only the
  * whole sum is limited, nothing on the way to it. A leg alone heard 80 zeros, and of two legs each heard the other unchanged. Refusals 19, 7. */
 uint32_t holdamek_mix(const int16_t *legs, size_t legs_length, int16_t *heard, size_t heard_length);
+
+/* Tries a playout depth on the arrivals of a call's frames. Frame i, from 0, is played at start + depth + 10 i milliseconds, summed without wrapping. Arrival j is of
+ * frame numbers[j], at times[j]; a frame may arrive several times or never, and arrivals stand in any order. Writes to `kinds` for each frame HOLDAMEK_VOICE, if one
+ * of its arrivals is at or before the time at which it is played, else HOLDAMEK_ERASED, and to `lost` how many are erased. A greater depth never makes a played frame
+ * lost. The numbers are read before the lengths of `times` and `kinds` are looked at. The time taken grows with frames plus arrivals. Refusals 20, 21, 7. */
+uint32_t holdamek_playout(uint32_t frames, uint32_t start, uint32_t depth, const uint32_t *numbers, size_t numbers_length, const uint32_t *times,
+                          size_t times_length, uint32_t *kinds, size_t kinds_length, uint32_t *lost);
 
 /* Counts a frame: adds 1 to `frames`, and for kinds 1 to 3 to `lost`. Refusals 5, 10. */
 uint32_t holdamek_count(uint32_t kind, uint32_t *frames, uint32_t *lost);

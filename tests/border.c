@@ -1059,6 +1059,324 @@ static void of_mix(void)
     of_mix_order();
 }
 
+enum { MORE_TRIED = HOLDAMEK_MOST_PLAYOUT + 1, MARK_NUMBER = 0x5aa55aa5, MARK_LOST = 77 };
+
+/* What is lent to try a playout depth: arrivals, the kinds of frames and the lost count, with a mark before each list and one behind. */
+static struct lent {
+    uint32_t numbers[1 + MORE_TRIED + 1], times[1 + MORE_TRIED + 1], kinds[1 + MORE_TRIED + 1], lost;
+} lent, lent_before;
+
+/* Marks all of it. The mark is no frame's number. */
+static void mark_lent(void)
+{
+    size_t n;
+
+    for (n = 0; n < MORE_TRIED + 2; n++)
+        lent.numbers[n] = lent.times[n] = lent.kinds[n] = MARK_NUMBER;
+    lent.lost = MARK_LOST;
+    lent_before = lent;
+}
+
+static int kept_lent(void)
+{
+    return memcmp(&lent, &lent_before, sizeof lent) == 0;
+}
+
+static uint32_t try_depth(uint32_t frames, uint32_t start, uint32_t depth, size_t n, size_t t, size_t k)
+{
+    return holdamek_playout(frames, start, depth, lent.numbers + 1, n, lent.times + 1, t, lent.kinds + 1, k, &lent.lost);
+}
+
+/* Whether these numbers of frames, arrivals, times and kinds are refused with this number, with no memory too where none is touched: that is all but the numbers' behind the
+ * first refusal. */
+static int untried(uint32_t frames, size_t n, size_t t, size_t k, uint32_t due)
+{
+    const uint32_t *numbers = due == HOLDAMEK_PLAYOUT_LIMIT ? NULL : lent.numbers + 1;
+
+    return try_depth(frames, 1000, 60, n, t, k) == due && holdamek_playout(frames, 1000, 60, numbers, n, NULL, t, NULL, k, &lent.lost) == due;
+}
+
+static const size_t lengths[] = {0, 1, 2, 20, 4095, 4096, 4097, 65536, (size_t)1 << 31, (size_t)1 << 32, ((size_t)1 << 32) + 1, (size_t)-1};
+enum { LENGTHS = sizeof lengths / sizeof *lengths };
+
+/* Whether this number of frames and of arrivals is refused with this number, whatever the other lengths. */
+static int never_tried(uint32_t frames, size_t n, uint32_t due)
+{
+    size_t t, k;
+
+    for (t = 0; t < LENGTHS; t++)
+        for (k = 0; k < LENGTHS; k++)
+            if (!untried(frames, n, lengths[t], lengths[k], due))
+                return 0;
+    return 1;
+}
+
+/* More than 4,096 frames or arrivals, with numbers that are no frame's and with every other length: their count comes first. */
+static void of_playout_limits(void)
+{
+    static const uint32_t frames[] = {4097, 4098, 8192, 65535, 65536, 69632, 0x7fffffffu, 0x80000000u, 0x80001000u, 0xfffff000u, 0xffffffffu};
+    static const uint32_t within[] = {0, 1, 20, 4096};
+    size_t n, k;
+
+    mark_lent();
+    for (n = 0; n < sizeof frames / sizeof *frames; n++)
+        for (k = 0; k < LENGTHS; k++)
+            check(never_tried(frames[n], lengths[k], HOLDAMEK_PLAYOUT_LIMIT), "more than 4,096 frames are refused first");
+    for (n = 0; n < sizeof within / sizeof *within; n++) {
+        check(never_tried(within[n], 4097, HOLDAMEK_PLAYOUT_LIMIT), "4,097 arrivals are refused first");
+        for (k = 8192; k != 0; k *= 2)
+            check(never_tried(within[n], k, HOLDAMEK_PLAYOUT_LIMIT) && never_tried(within[n], k + 20, HOLDAMEK_PLAYOUT_LIMIT) &&
+                      never_tried(within[n], 0 - k, HOLDAMEK_PLAYOUT_LIMIT),
+                  "a great number of arrivals is refused first");
+        check(never_tried(within[n], (size_t)-1, HOLDAMEK_PLAYOUT_LIMIT), "the greatest number of arrivals is refused first");
+    }
+    CHECK(kept_lent());
+}
+
+/* A number that is no frame's at a place among numbers that are, with every other length: it comes before these. */
+static void of_arrival_number(uint32_t frames, size_t n, size_t place)
+{
+    const uint32_t wrong[] = {frames, frames + 1, frames + 65536, 0x80000000u, 0xffffffffu};
+    size_t k;
+
+    mark_lent();
+    memset(lent.numbers + 1, 0, n * sizeof *lent.numbers);
+    for (k = 0; k < sizeof wrong / sizeof *wrong; k++) {
+        lent.numbers[place] = wrong[k];
+        lent_before = lent;
+        check(never_tried(frames, n, HOLDAMEK_ARRIVAL_NUMBER), "a number that is no frame's is refused before the lengths");
+        check(kept_lent(), "a refusal of a number leaves all memory as it was");
+    }
+}
+
+/* At every place of a short list, and at some of the longest. */
+static void of_arrival_numbers(void)
+{
+    static const uint32_t frames[] = {0, 1, 2, 20, 4095, 4096};
+    size_t n, place;
+
+    for (n = 0; n < sizeof frames / sizeof *frames; n++) {
+        for (place = 1; place <= 20; place++)
+            of_arrival_number(frames[n], 20, place);
+        of_arrival_number(frames[n], 1, 1);
+        of_arrival_number(frames[n], 4096, 1);
+        of_arrival_number(frames[n], 4096, 2049);
+        of_arrival_number(frames[n], 4096, 4096);
+    }
+    /* No frames: the least number is no frame's either. */
+    mark_lent();
+    lent.numbers[1] = lent_before.numbers[1] = 0;
+    CHECK(never_tried(0, 1, HOLDAMEK_ARRIVAL_NUMBER) && kept_lent());
+}
+
+/* Numbers that are a frame's, with other lengths of times and kinds: only these are left to be refused. */
+static void of_playout_lengths(void)
+{
+    const uint32_t due = HOLDAMEK_OUTPUT_LENGTH;
+    uint32_t frames;
+    size_t n, t, k;
+
+    mark_lent();
+    memset(lent.numbers + 1, 0, HOLDAMEK_MOST_PLAYOUT * sizeof *lent.numbers);
+    lent_before = lent;
+    for (frames = 0; frames <= 12; frames++)
+        for (n = 0; n <= (frames == 0 ? 0 : 12); n++) {
+            for (t = 0; t <= 14; t++)
+                for (k = 0; k <= 14; k++)
+                    if (t != n || k != frames)
+                        check(untried(frames, n, t, k, due), "not as many times as numbers, or not as many kinds as frames, are refused");
+            for (k = 1; k != 0; k *= 2)
+                check(untried(frames, n, n + k, frames, due) && untried(frames, n, n, frames + k, due) && untried(frames, n, n + k, frames + k, due),
+                      "lengths that differ by one bit are refused");
+        }
+    CHECK(untried(4096, 4096, 4095, 4096, due) && untried(4096, 4096, 4097, 4096, due));
+    CHECK(untried(4096, 4096, 4096, 4095, due) && untried(4096, 4096, 4096, 4097, due) && untried(0, 0, 0, 1, due) && untried(0, 0, 1, 0, due));
+    CHECK(kept_lent());
+}
+
+/* The kind of a frame that is played at this time: all arrivals are looked at. */
+static uint32_t kind_of(uint32_t frame, uint64_t at, size_t n)
+{
+    size_t k;
+
+    for (k = 1; k <= n; k++)
+        if (lent.numbers[k] == frame && lent.times[k] <= at)
+            return HOLDAMEK_VOICE;
+    return HOLDAMEK_ERASED;
+}
+
+/* Whether a depth, tried on so many frames and arrivals, gives what a plain double loop tells, and nothing else is written. */
+static int tries(uint32_t frames, uint32_t start, uint32_t depth, size_t n)
+{
+    uint32_t i;
+
+    for (i = 0; i < MORE_TRIED + 2; i++)
+        lent.kinds[i] = MARK_NUMBER;
+    lent.lost = MARK_LOST;
+    lent_before = lent;
+    lent_before.lost = 0;
+    for (i = 0; i < frames; i++) {
+        lent_before.kinds[1 + i] = kind_of(i, (uint64_t)start + depth + 10 * (uint64_t)i, n);
+        lent_before.lost += lent_before.kinds[1 + i] == HOLDAMEK_ERASED;
+    }
+    return try_depth(frames, start, depth, n, n, frames) == HOLDAMEK_OK && kept_lent();
+}
+
+/* Whether a frame with one arrival, at this time, has this kind. */
+static int plays(uint32_t start, uint32_t depth, uint32_t frame, uint32_t time, uint32_t kind)
+{
+    lent.numbers[1] = frame;
+    lent.times[1] = time;
+    return tries(frame + 1, start, depth, 1) && lent.kinds[1 + frame] == kind && lent.lost == frame + (kind == HOLDAMEK_ERASED);
+}
+
+/* Arrivals at the time at which a frame is played, before it and after it. */
+static void of_playout_times(void)
+{
+    static const uint32_t starts[] = {0, 1, 1000, 65530, 0x7ffffff0u}, depths[] = {0, 1, 60, 65530, 1000000}, frames[] = {0, 1, 2, 300, 4095};
+    size_t s, d, f;
+
+    mark_lent();
+    for (s = 0; s < sizeof starts / sizeof *starts; s++)
+        for (d = 0; d < sizeof depths / sizeof *depths; d++)
+            for (f = 0; f < sizeof frames / sizeof *frames; f++) {
+                uint32_t at = starts[s] + depths[d] + 10 * frames[f];
+
+                CHECK(plays(starts[s], depths[d], frames[f], at, HOLDAMEK_VOICE) && plays(starts[s], depths[d], frames[f], 0, HOLDAMEK_VOICE));
+                CHECK(at == 0 || plays(starts[s], depths[d], frames[f], at - 1, HOLDAMEK_VOICE));
+                CHECK(plays(starts[s], depths[d], frames[f], at + 1, HOLDAMEK_ERASED));
+                CHECK(plays(starts[s], depths[d], frames[f], 0xffffffffu, HOLDAMEK_ERASED));
+            }
+}
+
+/* Times of playing around 32 bits and beyond: each is the whole sum. */
+static void of_playout_sums(void)
+{
+    const uint32_t most32 = 0xffffffffu, half = 0x80000000u, voice_kind = HOLDAMEK_VOICE, erased = HOLDAMEK_ERASED;
+
+    mark_lent();
+    CHECK(plays(most32, 0, 0, most32, voice_kind) && plays(0, most32, 0, most32, voice_kind));
+    CHECK(plays(most32 - 1, 0, 0, most32, erased) && plays(0, most32 - 1, 0, most32, erased));
+    CHECK(plays(most32 - 1, 1, 0, most32, voice_kind) && plays(1, most32 - 1, 0, most32, voice_kind));
+    CHECK(plays(most32, 1, 0, most32, voice_kind) && plays(1, most32, 0, most32, voice_kind) && plays(most32, 1, 0, 1, voice_kind));
+    CHECK(plays(half, half, 0, most32, voice_kind) && plays(half, half - 1, 0, most32, voice_kind) && plays(half, half - 2, 0, most32, erased));
+    CHECK(plays(most32 - 10, 0, 1, most32, voice_kind) && plays(most32 - 11, 0, 1, most32, erased));
+    CHECK(plays(most32 - 1, 0, 1, most32, voice_kind) && plays(most32, 0, 1, most32, voice_kind));
+    CHECK(plays(most32 - 40950, 0, 4095, most32, voice_kind) && plays(most32 - 40951, 0, 4095, most32, erased));
+    CHECK(plays(most32, most32, 0, most32, voice_kind) && plays(most32, most32, 4095, most32, voice_kind));
+}
+
+enum { REPEATED = 7, ORDERS = 5040 };
+
+/* Puts seven arrivals into one of their 5,040 orders: the place of each among those that are left is a digit of its number. */
+static void put_in_order(const uint32_t arrivals[REPEATED][2], size_t order)
+{
+    size_t places[REPEATED], n, left;
+
+    for (n = 0; n < REPEATED; n++)
+        places[n] = n;
+    for (n = 0; n < REPEATED; n++) {
+        left = REPEATED - n;
+        lent.numbers[1 + n] = arrivals[places[order % left]][0];
+        lent.times[1 + n] = arrivals[places[order % left]][1];
+        places[order % left] = places[left - 1];
+        order /= left;
+    }
+}
+
+/* Frame 0 arrives in time, twice and late; frame 1 late and at its time; frame 2 late twice; frame 3 never. */
+static void of_playout_orders(void)
+{
+    static const uint32_t arrivals[REPEATED][2] = {{0, 105}, {0, 100}, {0, 900}, {1, 121}, {1, 120}, {2, 131}, {2, 132}};
+    static const uint32_t due[4] = {HOLDAMEK_VOICE, HOLDAMEK_VOICE, HOLDAMEK_ERASED, HOLDAMEK_ERASED};
+    size_t order, n;
+
+    mark_lent();
+    for (order = 0; order < ORDERS; order++) {
+        put_in_order(arrivals, order);
+        check(try_depth(4, 100, 10, REPEATED, REPEATED, 4) == HOLDAMEK_OK && memcmp(lent.kinds + 1, due, sizeof due) == 0 && lent.lost == 2,
+              "one arrival in time is enough, in any order");
+    }
+    for (n = 0; n < HOLDAMEK_MOST_PLAYOUT; n++) {
+        lent.numbers[1 + n] = arrivals[n % REPEATED][0];
+        lent.times[1 + n] = arrivals[n % REPEATED][1];
+    }
+    CHECK(tries(4, 100, 10, HOLDAMEK_MOST_PLAYOUT) && memcmp(lent.kinds + 1, due, sizeof due) == 0);
+}
+
+/* Numbers that seem random, below a limit. */
+static uint32_t below(uint32_t limit)
+{
+    static uint64_t seed = 1;
+
+    seed = seed * 6364136223846793005u + 1;
+    return (uint32_t)(seed >> 33) % limit;
+}
+
+/* Random arrivals: with times around those of playing, that are small or of 32 bits; and with a depth that grows, by which no played frame is lost. */
+static void of_playout_arrivals(void)
+{
+    uint32_t turn, n, depth, played[20] = {0};
+
+    mark_lent();
+    for (turn = 0; turn < 3000; turn++) {
+        uint32_t frames = 1 + below(50), count = below(80), base = turn % 3 == 0 ? 0 : turn % 3 == 1 ? 0xfffffb50u : 0x7ffffff0u;
+
+        for (n = 1; n <= count; n++) {
+            lent.numbers[n] = below(frames);
+            lent.times[n] = base + below(1200);
+        }
+        check(tries(frames, base + below(300), below(400), count) && tries(frames, below(400), base + below(300), count), "random arrivals");
+    }
+    for (n = 1; n <= 40; n++) {
+        lent.numbers[n] = below(20);
+        lent.times[n] = 1000 + 10 * lent.numbers[n] + below(250);
+    }
+    for (depth = 0; depth <= 250; depth++) {
+        CHECK(tries(20, 1000, depth, 40));
+        for (n = 0; n < 20; n++) {
+            check(lent.kinds[1 + n] == HOLDAMEK_VOICE || !played[n], "a greater depth never makes a played frame lost");
+            played[n] = lent.kinds[1 + n] == HOLDAMEK_VOICE;
+        }
+    }
+}
+
+/* No frames, no arrivals, the most of both, and one list as numbers and as times. */
+static void of_playout_counts(void)
+{
+    uint32_t n, lost = MARK_LOST;
+
+    mark_lent();
+    CHECK(holdamek_playout(0, 1000, 60, NULL, 0, NULL, 0, NULL, 0, &lost) == HOLDAMEK_OK && lost == 0);
+    CHECK(tries(0, 1000, 60, 0) && lent.lost == 0 && tries(0, 0xffffffffu, 0xffffffffu, 0));
+    CHECK(holdamek_playout(20, 1000, 60, NULL, 0, NULL, 0, lent.kinds + 1, 20, &lost) == HOLDAMEK_OK && lost == 20);
+    for (n = 0; n <= 20; n++)
+        CHECK(tries(n, 0xffffffffu, 0xffffffffu, 0) && lent.lost == n);
+    CHECK(tries(HOLDAMEK_MOST_PLAYOUT, 1000, 60, 0) && lent.lost == HOLDAMEK_MOST_PLAYOUT);
+    for (n = 0; n < HOLDAMEK_MOST_PLAYOUT; n++) {
+        lent.numbers[1 + n] = n * 2731 % HOLDAMEK_MOST_PLAYOUT;
+        lent.times[1 + n] = below(2 * 10 * HOLDAMEK_MOST_PLAYOUT);
+    }
+    CHECK(tries(HOLDAMEK_MOST_PLAYOUT, 1000, 60, HOLDAMEK_MOST_PLAYOUT) && lent.lost > 1000 && lent.lost < 4000);
+    CHECK(tries(HOLDAMEK_MOST_PLAYOUT, 0xffffffffu, 0, HOLDAMEK_MOST_PLAYOUT) && lent.lost == 0);
+    memcpy(lent.times, lent.numbers, sizeof lent.times);
+    CHECK(tries(HOLDAMEK_MOST_PLAYOUT, 0, 0, HOLDAMEK_MOST_PLAYOUT) && lent.lost == 0);
+    lent.kinds[1] = MARK_NUMBER;
+    CHECK(holdamek_playout(4096, 0, 0, lent.numbers + 1, 4096, lent.numbers + 1, 4096, lent.kinds + 1, 4096, &lent.lost) == HOLDAMEK_OK && kept_lent());
+}
+
+static void of_playout(void)
+{
+    of_playout_limits();
+    of_arrival_numbers();
+    of_playout_lengths();
+    of_playout_times();
+    of_playout_sums();
+    of_playout_orders();
+    of_playout_arrivals();
+    of_playout_counts();
+}
+
 int main(void)
 {
     size_t n;
@@ -1084,6 +1402,7 @@ int main(void)
     of_payloads();
     of_g711();
     of_mix();
+    of_playout();
     CHECK(tables[HOLDAMEK_TABLE_WORDS] == MARK);
     printf("border: %d checks, %d failed\n", checks, failed);
     return failed != 0;

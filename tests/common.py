@@ -9,7 +9,7 @@ G711_LEG = os.path.abspath(os.environ.get("G711_LEG", os.path.join(ROOT, "target
 CONFERENCE = os.path.abspath(os.environ.get("CONFERENCE", os.path.join(ROOT, "target/bin/conference")))
 DECODE = os.path.abspath(os.environ.get("DECODE", os.path.join(ROOT, "target/bin/decode")))
 TABLES = os.path.join(ROOT, "examples/tables.g729")
-VERSION = b"holdamek 0.8.0\n"
+VERSION = b"holdamek 0.9.0\n"
 
 
 def a_line(r):

@@ -62,7 +62,7 @@ static inline int on_tables(const char *path, int (*run)(const int16_t *tables, 
 }
 
 /* Prints the form of the samples of a frame, or of fewer, by one fwrite; a printf for each sample would take longer than decoding it. */
-static int print_samples(const int16_t *samples, size_t count)
+static inline int print_samples(const int16_t *samples, size_t count)
 {
     static const char digits[] = "0123456789abcdef";
     char form[5 + 4 * HOLDAMEK_FRAME_SAMPLES + 2] = "(pcm ";

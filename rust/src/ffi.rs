@@ -91,6 +91,18 @@ mod c {
             heard: *mut i16,
             heard_len: usize,
         ) -> u32;
+        pub fn holdamek_playout(
+            frames: u32,
+            start: u32,
+            depth: u32,
+            numbers: *const u32,
+            numbers_len: usize,
+            times: *const u32,
+            times_len: usize,
+            kinds: *mut u32,
+            kinds_len: usize,
+            lost: *mut u32,
+        ) -> u32;
         pub fn holdamek_count(kind: u32, frames: *mut u32, lost: *mut u32) -> u32;
         pub fn holdamek_agree(
             a: *const i16,
@@ -234,6 +246,32 @@ pub fn g711_write(law: u32, samples: &[i16], bytes: &mut [u8]) -> u32 {
 pub fn mix(legs: &[i16], heard: &mut [i16]) -> u32 {
     // SAFETY: see the head of this file.
     unsafe { c::holdamek_mix(legs.as_ptr(), legs.len(), heard.as_mut_ptr(), heard.len()) }
+}
+
+pub fn playout(
+    frames: u32,
+    start: u32,
+    depth: u32,
+    numbers: &[u32],
+    times: &[u32],
+    kinds: &mut [u32],
+    lost: &mut u32,
+) -> u32 {
+    // SAFETY: see the head of this file.
+    unsafe {
+        c::holdamek_playout(
+            frames,
+            start,
+            depth,
+            numbers.as_ptr(),
+            numbers.len(),
+            times.as_ptr(),
+            times.len(),
+            kinds.as_mut_ptr(),
+            kinds.len(),
+            lost,
+        )
+    }
 }
 
 pub fn count(kind: u32, frames: &mut u32, lost: &mut u32) -> u32 {

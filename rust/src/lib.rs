@@ -5,8 +5,9 @@
 //! another machine. [`Frame::parse`] reads a line of a call, [`Frame::write`] writes it, and [`Counts`] counts its frames.
 //! [`SpeechParams`] has the fields of a voice frame by name, read from its ten bytes or to be written as these. [`PayloadFrames`]
 //! takes an RTP payload apart, without copying. A [`Law`] reads the bytes of a G.711 leg as samples, and turns them back.
-//! [`mix()`] gives what each leg of a conference heard. [`StateBlock::agreement`] tells how far two decoders agree from here on. A
-//! [`Comparison`] tells of a far decoder's samples whether a decoder of the same frames makes them, whatever its past.
+//! [`mix()`] gives what each leg of a conference heard. [`playout()`] tries a playout depth on the arrivals of frames, and tells which
+//! would be lost. [`StateBlock::agreement`] tells how far two decoders agree from here on. A [`Comparison`] tells of a far decoder's
+//! samples whether a decoder of the same frames makes them, whatever its past.
 //!
 //! ```
 //! use holdamek::{Decoder, Frame, TableBlock};
@@ -30,6 +31,7 @@ mod comparison;
 mod g711;
 mod mix;
 mod payload;
+mod playout;
 mod refusal;
 mod speech_params;
 
@@ -37,6 +39,7 @@ pub use comparison::{Compared, Comparison, COMPARE_WORDS};
 pub use g711::Law;
 pub use mix::{mix, MOST_LEGS};
 pub use payload::{payload_frame, payload_frames, PayloadFrame, PayloadFrames};
+pub use playout::{playout, MOST_PLAYOUT};
 pub use refusal::Refusal;
 pub use speech_params::SpeechParams;
 

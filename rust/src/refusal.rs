@@ -19,7 +19,7 @@ pub enum Refusal {
     /// 6: the payload's length isn't that of its kind, or there are not ten bytes to read fields from or to write them to.
     PayloadLength,
     /// 7: the output isn't 80 words, or the room for a line isn't 36 bytes, or a G.711 leg has not as many bytes as samples, or
-    /// what legs heard has not as many frames as there are legs.
+    /// what legs heard has not as many frames as there are legs, or arrivals have not as many times as numbers.
     OutputLength,
     /// 8: the receiver of the fields isn't 15 numbers, or the fields to be written aren't 15, or 14 without P0.
     ReceiverLength,
@@ -41,12 +41,16 @@ pub enum Refusal {
     NoTableValue,
     /// 19: a conference has no legs, or more than 8.
     LegsLength,
+    /// 20: a playout depth is tried on more than 4,096 frames, or on more than 4,096 arrivals.
+    PlayoutLimit,
+    /// 21: the number of an arrival isn't below the number of frames.
+    ArrivalNumber,
     /// A number that this version of the crate doesn't know.
     Other(u32),
 }
 
-/// The refusals with their numbers, 1 to 13, 15 to 17 and 19, and their texts.
-const NUMBERED: [(u32, Refusal, &str); 17] = [
+/// The refusals with their numbers, 1 to 13, 15 to 17 and 19 to 21, and their texts.
+const NUMBERED: [(u32, Refusal, &str); 19] = [
     (1, Refusal::TableLength, "the table block isn't 1,880 words"),
     (
         2,
@@ -68,7 +72,7 @@ const NUMBERED: [(u32, Refusal, &str); 17] = [
     (
         7,
         Refusal::OutputLength,
-        "the output isn't 80 words, or the room for a line isn't 36 bytes, or a G.711 leg has not as many bytes as samples, or what legs heard has not as many frames as there are legs",
+        "the output isn't 80 words, or the room for a line isn't 36 bytes, or a G.711 leg has not as many bytes as samples, or what legs heard has not as many frames as there are legs, or arrivals have not as many times as numbers",
     ),
     (
         8,
@@ -103,6 +107,16 @@ const NUMBERED: [(u32, Refusal, &str); 17] = [
         19,
         Refusal::LegsLength,
         "a conference has no legs, or more than 8",
+    ),
+    (
+        20,
+        Refusal::PlayoutLimit,
+        "there are more than 4,096 frames, or more than 4,096 arrivals",
+    ),
+    (
+        21,
+        Refusal::ArrivalNumber,
+        "the number of an arrival isn't below the number of frames",
     ),
 ];
 
@@ -143,10 +157,10 @@ impl std::error::Error for Refusal {}
 #[test]
 fn every_number_comes_back() {
     assert_eq!(Refusal::check(0), Ok(()));
-    for code in (1..22).chain([u32::MAX]) {
+    for code in (1..24).chain([u32::MAX]) {
         let refusal = Refusal::check(code).unwrap_err();
         assert_eq!(refusal.code(), code);
-        let known = code <= 19 && code != 14 && code != 18;
+        let known = code <= 21 && code != 14 && code != 18;
         assert_eq!(matches!(refusal, Refusal::Other(_)), !known);
     }
 }

@@ -1,11 +1,13 @@
-//! The wrapper over the example files: samples, saving and resuming, the writing of frames, the frames of RTP payloads, G.711 legs, what each leg of a conference heard, the agreement of two decoders, the comparison with a far one, every refusal that its types leave.
+//! The wrapper over the example files: samples, saving and resuming, the writing of frames, the frames of RTP payloads, G.711 legs, what each leg of a conference heard, playout depths, the agreement of two decoders, the comparison with a far one, every refusal that its types leave.
 
 use holdamek::{
-    fields, mix, payload_frame, payload_frames, write_fields, write_fields_parity, Agreement,
-    Compared, Comparison, Counts, Decoder, Frame, Law, PayloadFrame, PayloadFrames, Refusal,
-    Samples, SpeechParams, StateBlock, TableBlock,
+    fields, mix, payload_frame, payload_frames, playout, write_fields, write_fields_parity,
+    Agreement, Compared, Comparison, Counts, Decoder, Frame, Law, PayloadFrame, PayloadFrames,
+    Refusal, Samples, SpeechParams, StateBlock, TableBlock,
 };
-use holdamek::{COMPARE_WORDS, LONGEST_LINE, MOST_FRAMES, MOST_LEGS, STATE_WORDS, TABLE_WORDS};
+use holdamek::{
+    COMPARE_WORDS, LONGEST_LINE, MOST_FRAMES, MOST_LEGS, MOST_PLAYOUT, STATE_WORDS, TABLE_WORDS,
+};
 
 const TABLES: &[u8] = include_bytes!("../../examples/tables.g729");
 const CALL: &[u8] = include_bytes!("../../examples/example.call");
@@ -717,6 +719,223 @@ fn legs_of_both_codecs_are_mixed() {
     }
 }
 
+/// An arrival: the number of its frame, and its time.
+type Arrival = (u32, u32);
+
+/// When a frame is played.
+fn played_at(start: u32, depth: u32, frame: u32) -> u64 {
+    u64::from(start) + u64::from(depth) + 10 * u64::from(frame)
+}
+
+/// The kinds of so many frames at this start and depth, which are those of a plain double loop, and so is the lost count.
+fn tried(start: u32, depth: u32, arrivals: &[Arrival], frames: usize) -> Vec<u32> {
+    let (numbers, times): (Vec<u32>, Vec<u32>) = arrivals.iter().copied().unzip();
+    let mut kinds = vec![7; frames];
+    let lost = playout(start, depth, &numbers, &times, &mut kinds).unwrap();
+    for (frame, kind) in (0..).zip(&kinds) {
+        let at = played_at(start, depth, frame);
+        let in_time = |a: &Arrival| a.0 == frame && u64::from(a.1) <= at;
+        assert_eq!(*kind, if arrivals.iter().any(in_time) { 0 } else { 3 });
+    }
+    assert_eq!(lost as usize, kinds.iter().filter(|k| **k == 3).count());
+    kinds
+}
+
+/// Numbers below a limit that seem random.
+fn numbers_below() -> impl FnMut(u32) -> u32 {
+    let mut seed = 1_u64;
+    move |limit| {
+        seed = seed.wrapping_mul(6364136223846793005).wrapping_add(1);
+        (seed >> 33) as u32 % limit
+    }
+}
+
+#[test]
+fn a_frame_is_played_that_arrives_at_or_before_its_time() {
+    let last = MOST_PLAYOUT as u32 - 1;
+    for (start, depth) in [(0, 0), (0, 60), (1000, 0), (1000, 60), (70_000, 1_000_000)] {
+        for frame in [0, 1, 2, 300, last] {
+            let at = played_at(start, depth, frame) as u32;
+            let alone = |time| tried(start, depth, &[(frame, time)], frame as usize + 1);
+            assert_eq!(alone(at)[frame as usize], 0);
+            assert_eq!(alone(at.saturating_sub(1))[frame as usize], 0);
+            assert_eq!(alone(0)[frame as usize], 0);
+            assert_eq!(alone(at + 1)[frame as usize], 3);
+            assert_eq!(alone(u32::MAX)[frame as usize], 3);
+            assert!(alone(at)[..frame as usize].iter().all(|kind| *kind == 3));
+        }
+    }
+}
+
+#[test]
+fn times_of_playing_go_beyond_32_bits() {
+    const MAX: u32 = u32::MAX;
+    for (start, depth, frame, time, kind) in [
+        (MAX, 0, 0, MAX, 0),
+        (0, MAX, 0, MAX, 0),
+        (MAX - 1, 0, 0, MAX, 3),
+        (0, MAX - 1, 0, MAX, 3),
+        (MAX - 1, 1, 0, MAX, 0),
+        (MAX, 1, 0, MAX, 0),
+        (MAX, 1, 0, 1, 0),
+        (MAX, MAX, 0, MAX, 0),
+        (1 << 31, 1 << 31, 0, MAX, 0),
+        (1 << 31, (1 << 31) - 2, 0, MAX, 3),
+        (MAX - 10, 0, 1, MAX, 0),
+        (MAX - 11, 0, 1, MAX, 3),
+        (MAX - 1, 0, 1, MAX, 0),
+        (MAX - 40_950, 0, 4095, MAX, 0),
+        (MAX - 40_951, 0, 4095, MAX, 3),
+        (MAX, MAX, 4095, MAX, 0),
+    ] {
+        let kinds = tried(start, depth, &[(frame, time)], frame as usize + 1);
+        assert_eq!(kinds[frame as usize], kind);
+    }
+}
+
+/// The list in each of its orders.
+fn orders(list: &[Arrival]) -> Vec<Vec<Arrival>> {
+    if list.is_empty() {
+        return vec![Vec::new()];
+    }
+    let behind = |first: usize| {
+        let mut rest = list.to_vec();
+        let arrival = rest.remove(first);
+        orders(&rest)
+            .into_iter()
+            .map(move |order| [vec![arrival], order].concat())
+    };
+    (0..list.len()).flat_map(behind).collect()
+}
+
+#[test]
+fn one_arrival_in_time_is_enough_in_any_order() {
+    // Frame 0 in time, twice and late; frame 1 late and at its time; frame 2 late twice; frame 3 never.
+    let arrivals = [
+        (0, 105),
+        (0, 100),
+        (0, 900),
+        (1, 121),
+        (1, 120),
+        (2, 131),
+        (2, 132),
+    ];
+    let orders = orders(&arrivals);
+    assert_eq!(orders.len(), 5040);
+    for order in orders {
+        assert_eq!(tried(100, 10, &order, 4), [0, 0, 3, 3]);
+    }
+    // Each arrival again, as often as there is room.
+    let many = arrivals.repeat(MOST_PLAYOUT / arrivals.len());
+    assert_eq!(tried(100, 10, &many, 4), [0, 0, 3, 3]);
+}
+
+#[test]
+fn no_frames_and_no_arrivals() {
+    assert_eq!(playout(0, 0, &[], &[], &mut []), Ok(0));
+    assert_eq!(playout(u32::MAX, u32::MAX, &[], &[], &mut []), Ok(0));
+    for frames in [1, 2, 80, MOST_PLAYOUT] {
+        assert_eq!(tried(5, 6, &[], frames), vec![3; frames]);
+    }
+    // There is no frame that an arrival could be of.
+    let refused = Err(Refusal::ArrivalNumber);
+    assert_eq!(playout(0, 0, &[0], &[0], &mut []), refused);
+    assert_eq!(playout(0, 0, &[0], &[], &mut []), refused);
+    let refused = Err(Refusal::OutputLength);
+    assert_eq!(playout(0, 0, &[], &[0], &mut []), refused);
+}
+
+#[test]
+fn refusals_of_a_playout_depth_have_their_order() {
+    let lengths = [0, 1, 2, MOST_PLAYOUT - 1, MOST_PLAYOUT, MOST_PLAYOUT + 1];
+    let each = |n: usize| (lengths[n % 6], lengths[n / 6 % 6], lengths[n / 36 % 6]);
+    for (frames, arrivals, times) in (0..216).map(each) {
+        // A number at every place, or at the last alone, that is one above those of the frames.
+        for wrong in [0, 1, arrivals] {
+            let mut numbers = vec![frames.saturating_sub(1) as u32; arrivals];
+            numbers[arrivals - wrong.min(arrivals)..].fill(frames as u32);
+            let (lent, mut kinds) = (vec![0; times], vec![7; frames]);
+            let due = if frames.max(arrivals) > MOST_PLAYOUT {
+                Err(Refusal::PlayoutLimit)
+            } else if numbers.iter().any(|number| *number as usize >= frames) {
+                Err(Refusal::ArrivalNumber)
+            } else if times != arrivals {
+                Err(Refusal::OutputLength)
+            } else {
+                Ok((frames - arrivals.min(1)) as u32)
+            };
+            assert_eq!(playout(0, 0, &numbers, &lent, &mut kinds), due);
+            if due.is_err() {
+                assert_eq!(kinds, vec![7; frames]);
+            }
+        }
+    }
+}
+
+#[test]
+fn a_number_that_is_no_frames_is_refused_wherever_it_stands() {
+    for frames in [1, 20, MOST_PLAYOUT] {
+        for number in [frames as u32, frames as u32 + 1, 1 << 31, u32::MAX] {
+            for place in [0, 1, 10, 18, 19] {
+                let mut numbers = [0; 20];
+                numbers[place] = number;
+                let mut kinds = vec![7; frames];
+                let answer = playout(0, 0, &numbers, &[0; 20], &mut kinds);
+                assert_eq!(answer, Err(Refusal::ArrivalNumber));
+                assert_eq!(kinds, vec![7; frames]);
+            }
+        }
+    }
+}
+
+#[test]
+fn a_greater_depth_never_makes_a_played_frame_lost() {
+    let mut below = numbers_below();
+    for _ in 0..20 {
+        let arrivals: Vec<Arrival> = (0..150)
+            .map(|_| {
+                let frame = below(100);
+                (frame, 1000 + 10 * frame + below(250))
+            })
+            .collect();
+        let mut before = vec![3; 100];
+        for depth in (0..=250).chain([1 << 31, u32::MAX]) {
+            let kinds = tried(1000, depth, &arrivals, 100);
+            assert!(kinds.iter().zip(&before).all(|(now, then)| now <= then));
+            before = kinds;
+        }
+        let arrived = |frame| arrivals.iter().any(|a| a.0 == frame);
+        assert!((0..)
+            .zip(&before)
+            .all(|(f, kind)| (*kind == 0) == arrived(f)));
+    }
+}
+
+#[test]
+fn depths_are_tried_on_arrivals_of_any_number() {
+    let mut below = numbers_below();
+    for turn in 0..2000 {
+        let (frames, count) = (1 + below(50), below(80));
+        let (start, depth) = match turn % 3 {
+            0 => (below(200), below(200)),
+            1 => (u32::MAX - below(400), below(400)),
+            _ => (below(400), u32::MAX - below(400)),
+        };
+        let around = start.saturating_add(depth).saturating_sub(200);
+        let arrivals: Vec<Arrival> = (0..count)
+            .map(|_| (below(frames), around.saturating_add(below(900))))
+            .collect();
+        tried(start, depth, &arrivals, frames as usize);
+    }
+    let most = MOST_PLAYOUT as u32;
+    let arrivals: Vec<Arrival> = (0..most)
+        .map(|n| (n * 2731 % most, below(2 * 10 * most)))
+        .collect();
+    let lost = tried(0, 0, &arrivals, MOST_PLAYOUT);
+    let lost = lost.iter().filter(|kind| **kind == 3).count();
+    assert!((1000..4000).contains(&lost));
+}
+
 #[test]
 fn a_call_has_a_limit() {
     let mut counts = Counts {
@@ -742,6 +961,8 @@ fn refusals_have_their_numbers() {
     assert_eq!(Refusal::OtherLaw.code(), 16);
     assert_eq!(Refusal::NoTableValue.code(), 17);
     assert_eq!(Refusal::LegsLength.code(), 19);
+    assert_eq!(Refusal::PlayoutLimit.code(), 20);
+    assert_eq!(Refusal::ArrivalNumber.code(), 21);
     assert_eq!(
         Refusal::LineForm.to_string(),
         "refusal 9: the line isn't one of the four forms"

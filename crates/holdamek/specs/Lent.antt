@@ -14,6 +14,9 @@ use Rattle.line.specs.declared.Read.the-variants as read
 use Rattle.line.specs.declared.Written.the-variants as written
 use Rattle.line.specs.Line as Line
 use Rattle.line.specs.Write as Write
+use Rattle.playout.specs.declared.Planned.{Planned}
+use Rattle.playout.specs.declared.Planned.the-variants as planned
+use Rattle.playout.specs.Playout as Playout
 use Rattle.compare_step.specs.declared.Compared.the-variants as compared
 use Rattle.compare_step.specs.Compare as Compare
 
@@ -39,6 +42,13 @@ lend-line before (Line.answer (read.Frame kind) bytes) = lent 0 kind bytes
 unfoldable pub lend-write : ℕ → Write.Answer → Lent
 lend-write before (Write.answer (written.Refused n) bytes) = lent n before bytes
 lend-write before (Write.answer (written.Done length) bytes) = lent 0 length bytes
+
+-- ---- Trying a playout depth: the number, the lost count and the kinds
+
+-- of the lost count as it was
+unfoldable pub lend-playout : ℕ → Playout.Answer Planned → Lent
+lend-playout before (Playout.answer (planned.Refused n) kinds) = lent n before kinds
+lend-playout before (Playout.answer (planned.Lost lost) kinds) = lent 0 lost kinds
 
 -- ---- Count: its number and the counts
 

@@ -1,4 +1,4 @@
-// The operations of 01 for other languages, the writing of frames and lines, the frames of RTP payloads, G.711, what each leg of a conference heard, the agreement of two decoders and the comparison with a far one: C functions over pointers and lengths, each the proved function of its crate.
+// The operations of 01 for other languages, the writing of frames and lines, the frames of RTP payloads, G.711, what each leg of a conference heard, the trying of playout depths, the agreement of two decoders and the comparison with a far one: C functions over pointers and lengths, each the proved function of its crate.
 // A slice is a pointer and then a length in elements. Each returns 0 or the number of its refusal, which leaves all lent memory as it
 // was; what it answers beside its number goes to lent memory. The two for RTP payloads return a struct of both. include/holdamek.h says the same for C.
 ghost use mathlib.Core.Path.{_≡_};
@@ -9,13 +9,14 @@ ghost use Rattle.pack.specs.Pack.{write-fields, write-fields-parity};
 ghost use Rattle.rtp.specs.Rtp.{frames, find};
 ghost use Rattle.g711.specs.G711 as g711;
 ghost use Rattle.mix.specs.Mix as mixing;
+ghost use Rattle.playout.specs.Playout.{playout};
 ghost use Rattle.state.specs.State as state;
 ghost use Rattle.agree.specs.Agree.{agree};
 ghost use Rattle.decoder.specs.Call.{frame};
 ghost use Rattle.line.specs.Line.{line};
 ghost use Rattle.line.specs.Write.{write};
 ghost use Rattle.compare_step.specs.Compare as comparison;
-ghost use Rattle.holdamek.specs.Lent.{comparing, lend-compare, framed, lend-frame, lent, lend-line, lend-write, counting, count-call, agreeing, lend-agree};
+ghost use Rattle.holdamek.specs.Lent.{comparing, lend-compare, framed, lend-frame, lent, lend-line, lend-write, lend-playout, counting, count-call, agreeing, lend-agree};
 
 #[no_mangle]
 pub extern "C" fn holdamek_table_check(t: &[i16]) -> u32
@@ -85,6 +86,29 @@ pub extern "C" fn holdamek_mix(legs: &[i16], heard: &mut [i16]) -> u32
     ensures { λ r. ⌜ mixing.mixed r (now (heard .exit)) ≡ mixing.mix-call (now (legs .entry)) (now (heard .entry)) ⌝ }
 {
     mix::mix(legs, heard)
+}
+
+// The kind of each frame at a playout depth goes to `kinds`, 0 voice or 3 lost, and how many are lost to `lost`.
+#[no_mangle]
+pub extern "C" fn holdamek_playout(
+    frames: u32,
+    start: u32,
+    depth: u32,
+    numbers: &[u32],
+    times: &[u32],
+    kinds: &mut [u32],
+    lost: &mut u32,
+) -> u32
+    ensures { λ r. ⌜ lent r (now (lost .exit)) (now (kinds .exit)) ≡ lend-playout (now (lost .entry)) (playout frames start depth (now (numbers .entry)) (now (times .entry)) (now (kinds .entry))) ⌝ }
+{
+    let answer = playout::playout(frames, start, depth, numbers, times, kinds);
+    match answer {
+        playout::Planned::Refused(n) => n,
+        playout::Planned::Lost(n) => {
+            *lost = n;
+            0
+        }
+    }
 }
 
 #[no_mangle]
