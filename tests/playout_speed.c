@@ -26,6 +26,7 @@ static const struct {
 };
 
 static double took[WAYS][MORE_ROUNDS];
+volatile uint32_t seen; /* so that what is only read is read */
 
 static double now(void)
 {
@@ -45,12 +46,26 @@ static uint32_t some_calls(int way, uint32_t size, uint32_t calls)
     return refused;
 }
 
+/* All memory of the calls into the cache, so that no way pays for what went on before, without any of their branches, which they would learn. */
+static void touch(void)
+{
+    uint32_t sum = 0, k;
+
+    for (k = 0; k < TOTAL; k++) {
+        kinds[k] = 1;
+        sum += numbers[k] + times[k];
+    }
+    seen = sum;
+}
+
 /* Nanoseconds a frame and arrival of one way. */
 static double timed(int way, uint32_t size)
 {
     uint32_t calls = (way < DOUBLE_CC ? TOTAL : MOST) / size;
-    double began = now();
+    double began;
 
+    touch();
+    began = now();
     some_calls(way, size, calls);
     return (now() - began) / (2.0 * size * calls);
 }
@@ -142,7 +157,7 @@ static void measure(uint32_t size, long all_lost, int rounds)
     int r, way;
 
     for (way = 0; way < WAYS; way++)
-        timed(way, size); /* not counted: caches */
+        timed(way, size); /* not counted: the code into the cache */
     for (r = 0; r < rounds; r++)
         for (way = 0; way < WAYS; way++)
             took[(way + r) % WAYS][r] = timed((way + r) % WAYS, size);
