@@ -10,7 +10,7 @@ use mir.Syntax.{w32}
 use mir.Val.{Fits}
 use Rattle.playout.specs.declared.Found.{Found}
 use Rattle.playout.specs.declared.Found.the-variants.{Never, Depth}
-use Rattle.playout.specs.Playout.{Arrival, Answer, answer, due, arrived, kinds, lost, enough, first, tried}
+use Rattle.playout.specs.Playout.{Arrival, Answer, answer, due, arrived, kinds, lost, enough, first, depth-of}
 use Rattle.playout.specs.Playout.{least as found}
 use Rattle.playout.specs.Laws.{length-kinds, lost-most}
 use Rattle.depth_table.specs.Table.{least, never}
@@ -24,12 +24,12 @@ left : Answer Found → List ℕ
 left (answer f ks) = ks
 
 module _ (s m : ℕ) (l : List Arrival) (n : ℕ) (f : Found) (ks : List ℕ) (e : answer f ks ≡ found s m l n) where
-  left-kinds : ks ≡ kinds s (tried (first (enough s m l n) 0 4294967296)) l n
+  left-kinds : ks ≡ kinds s (depth-of (first (enough s m l n) 0 4294967296)) l n
   unfolding found left
   left-kinds = ap left e
 
   pub left-fits : n ≤ 360000 → Fits w32 (lost ks)
-  left-fits h = rw left-kinds (lost-fits s (tried (first (enough s m l n) 0 4294967296)) l n h)
+  left-fits h = rw left-kinds (lost-fits s (depth-of (first (enough s m l n) 0 4294967296)) l n h)
 
   pub last-never : f ≡ Never → last s m l n ≡ never (lost ks) m
   unfolding last told
