@@ -1,11 +1,9 @@
 -- Laws of the table of playout depths: the loops over the arrivals, what the frame count and the start are, and some lines. Assumes nothing.
 use mathlib.Core.Path.{_≡_, refl, sym, _∙_}
-use mathlib.Core.Bool.{Bool, true, false, cond}
-use mathlib.Core.List.{List, [], _∷_, _++_}
+use mathlib.Core.List.{List, [], _∷_}
 use Prim.Native.Nat.{ℕ, zero, suc, _+_, _-_, _*_, _/_, _≤_, _<_, min, max}
 use native.Mathlib.Omega.{arith}
 use native.Mathlib.Nat.{div-le-of-le-mul}
-use lib.Dec.{eqb}
 use lib.ListN.{length, getD, drop, drop-of-length-le, length-drop}
 use lib.Seq.{drop-cons}
 use borrow.Author.Tests.{ne-eqb}
@@ -80,6 +78,17 @@ lowest-at (n ∷ ns) (t ∷ ts) (suc k) h = omega (arith, lowest-at ns ts k (ome
 pub not-after : (ns ts : List ℕ) (k : ℕ) → k < min (length ns) (length ts) → earliest ns ts ≤ began (getD ns k 0) (getD ts k 0)
 not-after ns ts k h = rw (earliest-lowest ns ts (min (length ns) (length ts)) refl (λ e. omega arith)) (lowest-at ns ts k h)
 
+lowest-most : (ns ts : List ℕ) (b : ℕ) → b ≤ 4294967295 → ((k : ℕ) → k < min (length ns) (length ts) → b ≤ began (getD ns k 0) (getD ts k 0)) → b ≤ lowest ns ts
+unfolding lowest
+lowest-most [] ts b h f = h
+lowest-most (n ∷ ns) [] b h f = h
+lowest-most (n ∷ ns) (t ∷ ts) b h f = omega (arith, f 0 (omega arith), lowest-most ns ts b h (λ k i. f (suc k) (omega arith)))
+
+-- and no later start has that
+pub no-later : (ns ts : List ℕ) (b : ℕ) → b ≤ 4294967295 → 0 < min (length ns) (length ts)
+    → ((k : ℕ) → k < min (length ns) (length ts) → b ≤ began (getD ns k 0) (getD ts k 0)) → b ≤ earliest ns ts
+no-later ns ts b h i f = rw (earliest-lowest ns ts (min (length ns) (length ts)) refl (λ e. omega arith)) (lowest-most ns ts b h f)
+
 -- ---- lines
 
 pub length-two : (n : ℕ) → length (two n) ≡ 2
@@ -87,8 +96,8 @@ unfolding two
 length-two n = refl
 
 -- at most 100 percent are lost
-pub at-most-all : (lost of : ℕ) → 10000 * min lost of / of ≤ 10000
-at-most-all lost of = div-le-of-le-mul of (omega arith)
+pub at-most-all : (lost n : ℕ) → 10000 * min lost n / n ≤ 10000
+at-most-all lost n = div-le-of-le-mul n (omega arith)
 
 half : row 0 812 1500 ≡ ascii "0 812 54.13\n"
 unfolding row hundredths percent two figure decimal digits

@@ -30,7 +30,7 @@ earliest ns ts = cond (eqb (min (length ns) (length ts)) 0) 0 (lowest ns ts)
 
 -- hundredths of a percent, 0 where there are no frames
 unfoldable pub hundredths : ℕ → ℕ → ℕ
-hundredths lost of = cond (eqb of 0) 0 (10000 * min lost of / of)
+hundredths lost frames = cond (eqb frames 0) 0 (10000 * min lost frames / frames)
 
 -- the last two digits
 unfoldable pub two : ℕ → List ℕ
@@ -41,11 +41,11 @@ unfoldable pub percent : ℕ → List ℕ
 percent h = figure (ascii " ") (h / 100) ++ ascii "." ++ two h ++ ascii "\n"
 
 unfoldable pub heading : ℕ → ℕ → ℕ → List ℕ
-heading of arrivals start =
-    figure (ascii "# frames ") of ++ figure (ascii ", arrivals ") arrivals ++ figure (ascii ", start ") start ++ ascii "\n# depth lost percent\n"
+heading frames arrivals start =
+    figure (ascii "# frames ") frames ++ figure (ascii ", arrivals ") arrivals ++ figure (ascii ", start ") start ++ ascii "\n# depth lost percent\n"
 
 unfoldable pub row : ℕ → ℕ → ℕ → List ℕ
-row depth lost of = figure (ascii "") depth ++ figure (ascii " ") lost ++ percent (hundredths lost of)
+row depth lost frames = figure (ascii "") depth ++ figure (ascii " ") lost ++ percent (hundredths lost frames)
 
 -- the least depth at which no more than the wanted number is lost, and where there is none
 unfoldable pub least : ℕ → ℕ → List ℕ

@@ -1,6 +1,6 @@
 // The table that the program `depths` prints: its lines, written into lent memory, and what is worked out of the arrivals where no option gives it.
 ghost use mathlib.Core.Path.{_≡_};
-ghost use Prim.Native.Nat.{_+_, _-_, _*_, _/_, _%_, _≤_, _<_, min, max};
+ghost use Prim.Native.Nat.{_+_, _≤_, _<_, min, max};
 ghost use lib.ListN.{length};
 ghost use Rattle.print.specs.Print.{over};
 ghost use Rattle.text.specs.Text.{Put};
@@ -84,14 +84,14 @@ pub fn earliest(numbers: &[u32], times: &[u32]) -> u32
 
 // ---- the lines. Each is at the front of lent bytes: its length is answered, and the bytes behind it are as they were.
 
-// Hundredths of a percent; `lost` is at most all frames.
-fn hundredths(lost: u32, of: u32) -> u32
-    ensures { λ r. ⌜ r ≡ hundredths lost of ⌝ }
+// Hundredths of a percent, rounded down. More lost frames than there are count as all.
+fn hundredths(lost: u32, frames: u32) -> u32
+    ensures { λ r. ⌜ r ≡ hundredths lost frames ⌝ }
 {
-    if of == 0 {
+    if frames == 0 {
         return 0;
     }
-    (10000 * wide(lesser(lost, of)) / wide(of)) as u32
+    (10000 * wide(lesser(lost, frames)) / wide(frames)) as u32
 }
 
 // The last two digits of a number.
@@ -116,20 +116,20 @@ fn percent(h: u32, from: usize, out: &mut [u8]) -> usize
 }
 
 // `# frames N, arrivals M, start S` and `# depth lost percent`.
-pub fn heading(of: u32, arrivals: u32, start: u32, out: &mut [u8; ROOM]) -> usize
-    ensures { λ r. ⌜ (r ≤ 80) × ((r ≡ length (heading of arrivals start)) × (now (out .exit) ≡ over (heading of arrivals start) (now (out .entry)))) ⌝ }
+pub fn heading(frames: u32, arrivals: u32, start: u32, out: &mut [u8; ROOM]) -> usize
+    ensures { λ r. ⌜ (r ≤ 80) × ((r ≡ length (heading frames arrivals start)) × (now (out .exit) ≡ over (heading frames arrivals start) (now (out .entry)))) ⌝ }
 {
-    let a = figure(b"# frames ", of, 0, out);
+    let a = figure(b"# frames ", frames, 0, out);
     let b = figure(b", arrivals ", arrivals, a, out);
     let c = figure(b", start ", start, b, out);
     put(b"\n# depth lost percent\n", c, out)
 }
 
 // `DEPTH LOST PERCENT`, of so many frames.
-pub fn row(depth: u32, lost: u32, of: u32, out: &mut [u8; ROOM]) -> usize
-    ensures { λ r. ⌜ (r ≤ 80) × ((r ≡ length (row depth lost of)) × (now (out .exit) ≡ over (row depth lost of) (now (out .entry)))) ⌝ }
+pub fn row(depth: u32, lost: u32, frames: u32, out: &mut [u8; ROOM]) -> usize
+    ensures { λ r. ⌜ (r ≤ 80) × ((r ≡ length (row depth lost frames)) × (now (out .exit) ≡ over (row depth lost frames) (now (out .entry)))) ⌝ }
 {
-    let h = hundredths(lost, of);
+    let h = hundredths(lost, frames);
     let a = figure(b"", depth, 0, out);
     let b = figure(b" ", lost, a, out);
     percent(h, b, out)

@@ -2,7 +2,6 @@
 ghost use mathlib.Core.Path.{_≡_};
 ghost use Prim.Native.Nat.{_≤_, _<_};
 ghost use lib.ListN.{length};
-ghost use Rattle.source.specs.Source.{Inside};
 ghost use Rattle.depths_files.specs.Held.{Held};
 use crate::MOST;
 use crate::TURNS;

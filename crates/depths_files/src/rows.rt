@@ -1,6 +1,6 @@
 // The table of arrivals that were read: the heading, a row for each depth, and the least depth.
 ghost use mathlib.Core.Path.{_≡_};
-ghost use Prim.Native.Nat.{_≤_, _<_, min};
+ghost use Prim.Native.Nat.{_≤_, min};
 ghost use lib.ListN.{length};
 ghost use Rattle.print.specs.Print.{over};
 ghost use Rattle.playout.specs.Playout.{arrivals};
@@ -57,10 +57,10 @@ fn put_row(
     requires { ⌜ length (now kinds) ≤ 360000 ⌝ }
     ensures { λ r. ⌜ (r ≤ 80) × ((r ≡ length (row-at start depth (arrivals (now (numbers .entry)) (now (times .entry))) (length (now (kinds .entry))))) × (now (out .exit) ≡ over (row-at start depth (arrivals (now (numbers .entry)) (now (times .entry))) (length (now (kinds .entry)))) (now (out .entry)))) ⌝ }
 {
-    let of = kinds.len() as u32;
+    let frames = kinds.len() as u32;
     playout::kinds(start, depth, numbers, times, kinds);
     let lost = playout::lost(kinds);
-    depth_table::row(depth, lost as u32, of, out)
+    depth_table::row(depth, lost as u32, frames, out)
 }
 
 // The last line at the front of `out`; its length.
@@ -91,9 +91,9 @@ fn write(line: &[u8; ROOM], n: usize) -> bool
 }
 
 // Prints the heading of so many frames and arrivals.
-fn print_heading(of: usize, arrivals: usize, start: u32) -> bool {
+fn print_heading(frames: usize, arrivals: usize, start: u32) -> bool {
     let mut out = [0u8; ROOM];
-    let n = depth_table::heading(narrow(of), narrow(arrivals), start, &mut out);
+    let n = depth_table::heading(narrow(frames), narrow(arrivals), start, &mut out);
     write(&out, n)
 }
 
@@ -170,8 +170,8 @@ fn print_table(w: Wanted, numbers: &[u32], times: &[u32], kinds: &mut [u32])
 fn print_part(w: Wanted, numbers: &[u32], times: &[u32], kinds: &mut [u32])
     requires { ⌜ length (now kinds) ≡ 360000 ⌝ }
 {
-    let of = frames(w, numbers);
-    print_table(w, numbers, times, &mut kinds[0..of]);
+    let n = frames(w, numbers);
+    print_table(w, numbers, times, &mut kinds[0..n]);
 }
 
 // Prints the table of the first n arrivals of the lists.

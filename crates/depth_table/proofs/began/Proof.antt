@@ -1,5 +1,4 @@
 -- `depth_table::began` meets its contract: below 0 is 0.
-use native.Mathlib.Omega.{arith}
 use borrow.Author.Needs.{needs}
 use Rattle.depth_table.specs.Table.{began}
 use Rattle.depth_table.proofs.began.Statement.{statement}

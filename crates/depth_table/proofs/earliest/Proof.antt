@@ -4,7 +4,7 @@ use mathlib.Core.Path.{_≡_}
 use native.Mathlib.Omega.{arith}
 use borrow.Author.Needs.{needs}
 use lib.ListN.{length, drop}
-use Rattle.depth_table.specs.Table.{lowest, earliest}
+use Rattle.depth_table.specs.Table.{lowest}
 use Rattle.depth_table.specs.Laws.{lowest-none, lowest-more, earliest-none, earliest-end}
 use Rattle.depth_table.proofs.earliest.Statement.{statement}
 use Rattle.depth_table.proofs.earliest.Tie as tie

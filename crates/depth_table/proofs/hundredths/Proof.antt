@@ -14,7 +14,7 @@ returns c = rw (eq-eqb _ _ (c .if1 .taken))
 cast-result : tie.Need-cast-result
 cast-result c =
     let s = c .before .before .before .before in
-    rw (c .wide2 .ensures .0, c .before .wide .ensures .0, c .before .before .lesser .ensures) (record { fits = omega (arith, at-most-all (s .args .lost) (s .args .of)) })
+    rw (c .wide2 .ensures .0, c .before .wide .ensures .0, c .before .before .lesser .ensures) (record { fits = omega (arith, at-most-all (s .args .lost) (s .args .frames)) })
 
 returns-2 : tie.Need-returns-2
 unfolding hundredths
