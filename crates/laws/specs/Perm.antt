@@ -22,6 +22,12 @@ module _ {A : Type 0} where
   perm-length swap = refl
   perm-length (then p q) = perm-length p ∙ perm-length q
 
+  pub perm-sym : {l m : List A} → Perm l m → Perm m l
+  perm-sym none = none
+  perm-sym (keep p) = keep (perm-sym p)
+  perm-sym swap = swap
+  perm-sym (then p q) = then (perm-sym q) (perm-sym p)
+
   -- what holds of each element of one list holds of each of the other
   pub perm-each : (P : A → Type 0) (z : A) {l m : List A} → Perm l m → ((k : ℕ) → k < length m → P (getD m k z)) → (k : ℕ) → k < length l → P (getD l k z)
   perm-each P z none h k b = h k b

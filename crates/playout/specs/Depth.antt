@@ -2,15 +2,15 @@
 use mathlib.Core.Path.{_≡_, refl, sym, ap, _∙_}
 use mathlib.Core.Bool.{Bool, true, false, cond, _&&_, _||_}
 use mathlib.Core.List.{List, [], _∷_, map}
-use Prim.Native.Nat.{ℕ, zero, suc, _+_, _*_, _≤_, _<_}
+use Prim.Native.Nat.{ℕ, suc, _≤_, _<_}
 use native.Mathlib.Omega.{arith}
 use lib.Dec.{eqb, leb}
 use lib.ListN.{length, getD}
-use borrow.Author.Tests.{le-leb, leb-true, eqb-true}
-use Rattle.laws.specs.Lists.{upto, length-upto, upto-at}
+use borrow.Author.Tests.{le-leb, leb-true}
+use Rattle.laws.specs.Lists.{upto}
 use Rattle.playout.specs.declared.Planned.the-variants.{Refused, Lost}
-use Rattle.playout.specs.Playout.{Arrival, arrivals, due, arrived, kind, kinds, lost, Answer, answer, refusal, playout}
-use Rattle.playout.specs.Laws.{length-kinds, kinds-at, playout-done, done}
+use Rattle.playout.specs.Playout.{Arrival, arrivals, due, arrived, kind, kinds, lost, answer, refusal, playout}
+use Rattle.playout.specs.Laws.{kinds-at, playout-done, done, not-refused}
 
 or-right : (p q : Bool) → q ≡ true → (p || q) ≡ true
 or-right true q f = refl
@@ -53,14 +53,14 @@ module _ (s d e : ℕ) (deep : d ≤ e) (l : List Arrival) where
   unfolding kinds
   fewer n = fewer-of (upto n)
 
--- ---- the same of two calls with the same start and arrivals: where one is not refused, the one at a greater depth is not either, each frame that the first played is played, and no more are lost
+-- ---- the same of two calls with the same start and arrivals: where one is not refused, the one at a greater depth is not either, it plays each frame that the first played, and it loses no more frames
 
 pub record Deeper (f s e : ℕ) (ns ts again : List ℕ) (m : ℕ) (ks : List ℕ) : Type 0 where
   pub count : ℕ
   pub after : List ℕ
   pub given : playout f s e ns ts again ≡ answer (Lost count) after
   pub fewer : count ≤ m
-  pub played : (i : ℕ) → i < f → getD ks i 0 ≡ 0 → getD after i 0 ≡ 0
+  pub played : (i : ℕ) → i < f → getD ks i 3 ≡ 0 → getD after i 3 ≡ 0
 
 pub call-deeper : (f s d e : ℕ) (ns ts before again : List ℕ) (m : ℕ) (ks : List ℕ) → playout f s d ns ts before ≡ answer (Lost m) ks → d ≤ e → length again ≡ length before → Deeper f s e ns ts again m ks
 call-deeper f s d e ns ts before again m ks g h b =
@@ -71,5 +71,18 @@ call-deeper f s d e ns ts before again m ks g h b =
       given = sym (playout-done f s e ns ts again 0 (rw b (sym (w .0))) refl (lost (kinds s e (arrivals ns ts) f)) (kinds s e (arrivals ns ts) f) refl refl);
       fewer = rw (w .1) (fewer s d e h (arrivals ns ts) f);
       played = λ i c z.
-          kinds-at s e (arrivals ns ts) f i c ∙ deeper s d e h (arrivals ns ts) i (sym (kinds-at s d (arrivals ns ts) f i c) ∙ ap (λ (x : List ℕ). getD x i 0) (sym (w .2)) ∙ z);
+          kinds-at s e (arrivals ns ts) f i 3 c ∙ deeper s d e h (arrivals ns ts) i (sym (kinds-at s d (arrivals ns ts) f i 3 c) ∙ ap (λ (x : List ℕ). getD x i 3) (sym (w .2)) ∙ z);
     }
+
+-- a refusal is the same at every depth
+pub call-refused : (f s d e : ℕ) (ns ts before : List ℕ) (n : ℕ) → playout f s d ns ts before ≡ answer (Refused n) before → playout f s e ns ts before ≡ answer (Refused n) before
+unfolding playout
+call-refused f s d e ns ts before n g = go (eqb (refusal f ns (length ts) (length before)) 0) g
+  where
+    after : ℕ → List ℕ
+    after k = kinds s k (arrivals ns ts) f
+
+    go : (t : Bool) → cond t (answer (Lost (lost (after d))) (after d)) (answer (Refused (refusal f ns (length ts) (length before))) before) ≡ answer (Refused n) before
+        → cond t (answer (Lost (lost (after e))) (after e)) (answer (Refused (refusal f ns (length ts) (length before))) before) ≡ answer (Refused n) before
+    go true q = absurd (not-refused (lost (after d)) n (after d) before q)
+    go false q = q

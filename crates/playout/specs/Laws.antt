@@ -3,13 +3,13 @@ use mathlib.Core.Path.{_≡_, refl, sym, ap, _∙_}
 use mathlib.Core.Logic.{_≢_}
 use mathlib.Core.Bool.{Bool, true, false, cond, _&&_, _||_}
 use mathlib.Core.List.{List, [], _∷_, _++_, map}
-use Prim.Native.Nat.{ℕ, zero, suc, _+_, _*_, _≤_, _<_, min}
+use Prim.Native.Nat.{ℕ, zero, suc, _+_, _≤_, _<_, min}
 use native.Mathlib.Numerals.{add-one}
 use native.Mathlib.Omega.{arith}
 use lib.Dec.{eqb, leb, eqb·suc-zero}
 use lib.ListN.{length, getD, set, take, length-set, length-map}
 use lib.Seq.{take-suc, take-all, length-take-le, getD-set-same, getD-set-other, ext-getD}
-use borrow.Author.Tests.{eqb-true, eqb-false, ne-eqb, leb-true}
+use borrow.Author.Tests.{eqb-true, eqb-false, ne-eqb, eq-eqb, leb-true, le-leb}
 use Rattle.laws.specs.Lists.{upto, length-upto, map-upto}
 use Rattle.playout.specs.declared.Planned.{Planned}
 use Rattle.playout.specs.declared.Planned.the-variants.{Refused, Lost}
@@ -38,7 +38,7 @@ pub length-take-in : (s d n t : ℕ) (ks : List ℕ) → length (take-in s d n t
 unfolding take-in
 length-take-in s d n t ks = length-set ks n (kept (getD ks n 0) t (due s d n))
 
--- one of no frame
+-- one whose number isn't below the frame count
 pub take-in-past : (s d n t : ℕ) (ks : List ℕ) → length ks ≤ n → take-in s d n t ks ≡ ks
 unfolding take-in
 take-in-past s d n t ks h = set-past ks n (kept (getD ks n 0) t (due s d n)) h
@@ -49,7 +49,7 @@ module _ (s d : ℕ) where
   length-all [] ks = refl
   length-all (a ∷ l) ks = length-all l (take-in s d (a .number) (a .time) ks) ∙ length-take-in s d (a .number) (a .time) ks
 
-  -- one arrival, then its frame's kind and another's
+  -- the kind of frame i behind one arrival
   take-at : (n t : ℕ) (ks : List ℕ) (i : ℕ) → i < length ks → getD (take-in s d n t ks) i 0 ≡ cond (eqb n i && leb t (due s d i)) 0 (getD ks i 0)
   unfolding take-in
   take-at n t ks i h = by (eqb n i) refl
@@ -75,9 +75,9 @@ module _ (s d : ℕ) where
   unfolding kinds
   length-kinds l n = length-map (upto n) (kind s d l) ∙ length-upto n
 
-  pub kinds-at : (l : List Arrival) (n i : ℕ) → i < n → getD (kinds s d l n) i 0 ≡ kind s d l i
+  pub kinds-at : (l : List Arrival) (n i z : ℕ) → i < n → getD (kinds s d l n) i z ≡ kind s d l i
   unfolding kinds
-  kinds-at l n i h = map-upto (kind s d l) n i 0 h
+  kinds-at l n i z h = map-upto (kind s d l) n i z h
 
   lost-at : (ks : List ℕ) (i : ℕ) → i < length ks → _≡_ {A = ℕ} (getD (map (λ k. 3) ks) i 0) 3
   lost-at [] i h = absurd (omega arith)
@@ -96,7 +96,7 @@ module _ (s d : ℕ) where
       let b : i < length ks = omega (arith, ll) in
       all-at l m i (omega (arith, lm))
       ∙ ap (λ (x : ℕ). cond (arrived i (due s d i) l) 0 x) (lost-at ks i b)
-      ∙ sym (kinds-at l (length ks) i b))
+      ∙ sym (kinds-at l (length ks) i 0 b))
 
   -- ---- the loop over the arrivals
 
@@ -188,9 +188,9 @@ lost-end ks i n h e = e ∙ ap lost (take-all i ks (omega arith))
 
 -- ---- what is not refused
 
-pub few : (f : ℕ) (ns : List ℕ) (ts room : ℕ) → refusal f ns ts room ≡ 0 → (f ≤ 4096) × (length ns ≤ 4096) × (below f ns ≡ true) × (ts ≡ length ns) × (room ≡ f)
+pub accepted : (f : ℕ) (ns : List ℕ) (ts room : ℕ) → refusal f ns ts room ≡ 0 → (f ≤ 4096) × (length ns ≤ 4096) × (below f ns ≡ true) × (ts ≡ length ns) × (room ≡ f)
 unfolding refusal
-few f ns ts room e = go (leb f 4096) (leb (length ns) 4096) (below f ns) (eqb ts (length ns)) (eqb room f) refl refl refl refl refl e
+accepted f ns ts room e = go (leb f 4096) (leb (length ns) 4096) (below f ns) (eqb ts (length ns)) (eqb room f) refl refl refl refl refl e
   where
     go : (a b c p q : Bool) → leb f 4096 ≡ a → leb (length ns) 4096 ≡ b → below f ns ≡ c → eqb ts (length ns) ≡ p → eqb room f ≡ q
         → cond {A = ℕ} (a && b) (cond c (cond (p && q) 0 7) 21) 20 ≡ 0 → (f ≤ 4096) × (length ns ≤ 4096) × (below f ns ≡ true) × (ts ≡ length ns) × (room ≡ f)
@@ -200,6 +200,10 @@ few f ns ts room e = go (leb f 4096) (leb (length ns) 4096) (below f ns) (eqb ts
     go true true false p q h i j k m z = absurd (omega arith)
     go true false c p q h i j k m z = absurd (omega arith)
     go false b c p q h i j k m z = absurd (omega arith)
+
+pub accepted-if : (f : ℕ) (ns : List ℕ) (ts room : ℕ) → f ≤ 4096 → length ns ≤ 4096 → below f ns ≡ true → ts ≡ length ns → room ≡ f → refusal f ns ts room ≡ 0
+unfolding refusal
+accepted-if f ns ts room a b c e g = rw (le-leb f 4096 a, le-leb (length ns) 4096 b, c, eq-eqb ts (length ns) e, eq-eqb room f g)
 
 -- ---- the call, by its number
 
@@ -224,6 +228,9 @@ abbrev is-refused : Answer Planned → ℕ
 is-refused (answer (Refused n) ks) = 1
 is-refused (answer (Lost m) ks) = 0
 
+pub not-refused : (m n : ℕ) (ks before : List ℕ) → answer (Lost m) ks ≡ answer (Refused n) before → ⊥
+not-refused m n ks before g = let c : _≡_ {A = ℕ} 0 1 = ap is-refused g in absurd (omega arith)
+
 pub done : (f s d : ℕ) (ns ts before : List ℕ) (m : ℕ) (ks : List ℕ) → playout f s d ns ts before ≡ answer (Lost m) ks
     → (refusal f ns (length ts) (length before) ≡ 0) × (m ≡ lost (kinds s d (arrivals ns ts) f)) × (ks ≡ kinds s d (arrivals ns ts) f)
 unfolding playout
@@ -234,4 +241,4 @@ done f s d ns ts before m ks e = go (refusal f ns (length ts) (length before)) e
 
     go : (n : ℕ) → cond (eqb n 0) (answer (Lost (lost after)) after) (answer (Refused n) before) ≡ answer (Lost m) ks → (n ≡ 0) × (m ≡ lost after) × (ks ≡ after)
     go zero g = (refl, sym (ap planned g), sym (ap left g))
-    go (suc n) g = let c : _≡_ {A = ℕ} 1 0 = ap is-refused (rw eqb·suc-zero at g) in absurd (omega arith)
+    go (suc n) g = absurd (not-refused m (suc n) ks before (sym (rw eqb·suc-zero at g)))

@@ -2,4 +2,6 @@
 pub mod Playout
 pub mod Laws
 pub mod Depth
+pub mod Arrivals
 pub mod Least
+pub mod Values

@@ -26,7 +26,7 @@ arrivals (n ∷ numbers) (t ∷ times) = record { number = n; time = t } ∷ arr
 abbrev pub due : (start depth i : ℕ) → ℕ
 due start depth i = start + depth + 10 * i
 
--- an arrival of frame i has this time or one before it
+-- an arrival of frame i has a time at or before `by`
 unfoldable pub arrived : (i by : ℕ) → List Arrival → Bool
 arrived i by [] = false
 arrived i by (a ∷ l) = (eqb (a .number) i && leb (a .time) by) || arrived i by l
@@ -39,7 +39,7 @@ kind start depth l i = cond (arrived i (due start depth i) l) 0 3
 unfoldable pub kinds : (start depth : ℕ) → List Arrival → ℕ → List ℕ
 kinds start depth l n = map (kind start depth l) (upto n)
 
--- how many of these are 3
+-- how many of a list are 3
 unfoldable pub lost : List ℕ → ℕ
 lost [] = 0
 lost (k ∷ ks) = cond (eqb k 3) (suc (lost ks)) (lost ks)
@@ -53,7 +53,7 @@ pub data Answer (A : Type 0) : Type 0 where
 unfoldable pub below : ℕ → List ℕ → Bool
 below frames numbers = nowhere (λ k. leb frames (getD numbers k 0)) (length numbers)
 
--- 20: more than 4,096 frames or arrivals. 21: an arrival of no frame. 7: not as many times as numbers, or not one kind for each frame
+-- 20: more than 4,096 frames or arrivals. 21: an arrival whose number isn't below the frame count. 7: not as many times as numbers, or not one kind for each frame
 unfoldable pub refusal : (frames : ℕ) (numbers : List ℕ) (times room : ℕ) → ℕ
 refusal frames numbers times room =
     cond (leb frames 4096 && leb (length numbers) 4096) (cond (below frames numbers) (cond (eqb times (length numbers) && eqb room frames) 0 7) 21) 20
@@ -66,8 +66,8 @@ playout frames start depth numbers times before =
 
 -- ---- the least depth at which at most so many of n frames are lost, of all depths of 32 bits
 
-unfoldable pub enough : (start most : ℕ) → List Arrival → (n depth : ℕ) → Bool
-enough start most l n depth = leb (lost (kinds start depth l n)) most
+unfoldable pub enough : (start allowed : ℕ) → List Arrival → (n depth : ℕ) → Bool
+enough start allowed l n depth = leb (lost (kinds start depth l n)) allowed
 
 -- the first of the n numbers from d on that passes a test
 unfoldable pub first : (ℕ → Bool) → (d n : ℕ) → Found
@@ -75,12 +75,12 @@ first test d zero = Never
 first test d (suc n) = cond (test d) (Depth d) (first test (suc d) n)
 
 -- the depth found, else the greatest
-unfoldable pub tried : Found → ℕ
-tried Never = 4294967295
-tried (Depth d) = d
+unfoldable pub depth-of : Found → ℕ
+depth-of Never = 4294967295
+depth-of (Depth d) = d
 
 -- the answer, with the kinds of that depth
-unfoldable pub least : (start most : ℕ) → List Arrival → ℕ → Answer Found
-least start most l n =
-    let found : Found = first (enough start most l n) 0 4294967296 in
-    answer found (kinds start (tried found) l n)
+unfoldable pub least : (start allowed : ℕ) → List Arrival → ℕ → Answer Found
+least start allowed l n =
+    let found : Found = first (enough start allowed l n) 0 4294967296 in
+    answer found (kinds start (depth-of found) l n)

@@ -1,8 +1,8 @@
 // Trying playout depths (change request 11): which frames of a list of arrivals would be played, and how many lost. Times are in milliseconds.
 ghost use mathlib.Core.Path.{_≡_};
 ghost use mathlib.Core.Bool.{cond};
-ghost use Prim.Native.Nat.{_+_, _≤_, _<_, min};
-ghost use lib.Dec.{eqb, leb};
+ghost use Prim.Native.Nat.{_+_, _<_, min};
+ghost use lib.Dec.{eqb};
 ghost use mathlib.Core.List.{map};
 ghost use lib.ListN.{length};
 ghost use Rattle.playout.specs.Playout.{Answer, arrivals, due, kinds, lost, below, refusal, playout, enough, least};
@@ -59,7 +59,7 @@ fn lesser(a: usize, b: usize) -> usize
     if a < b { a } else { b }
 }
 
-// Every frame lost.
+// Makes every frame lost.
 fn clear(kinds: &mut [u32])
     ensures { λ r. ⌜ now (kinds .exit) ≡ map (λ k. 3) (now (kinds .entry)) ⌝ }
 {
@@ -68,7 +68,7 @@ fn clear(kinds: &mut [u32])
     }
 }
 
-// One arrival. That of no frame changes nothing.
+// One arrival. One whose number isn't below the frame count changes nothing.
 fn take(start: u32, depth: u32, number: u32, time: u32, kinds: &mut [u32])
     ensures { λ r. ⌜ now (kinds .exit) ≡ take-in start depth number time (now (kinds .entry)) ⌝ }
 {
@@ -78,7 +78,7 @@ fn take(start: u32, depth: u32, number: u32, time: u32, kinds: &mut [u32])
     }
 }
 
-// The kind of each frame at this depth, for any number of frames and arrivals: these are as many as the shorter of their lists has, and those of no frame change nothing.
+// The kind of each frame at this depth, for any number of frames and arrivals: the arrivals are as many as the shorter of their lists has, and those whose number isn't below the frame count change nothing.
 pub fn kinds(start: u32, depth: u32, numbers: &[u32], times: &[u32], out: &mut [u32])
     ensures { λ r. ⌜ now (out .exit) ≡ kinds start depth (arrivals (now (numbers .entry)) (now (times .entry))) (length (now (out .entry))) ⌝ }
 {
@@ -119,7 +119,7 @@ fn below(frames: u32, numbers: &[u32]) -> bool
     all
 }
 
-// What is refused before a kind is written: 20 more than 4,096 frames or arrivals, 21 an arrival of no frame, 7 not as many times as numbers or not a kind for each frame.
+// What is refused before a kind is written: 20 more than 4,096 frames or arrivals, 21 an arrival whose number isn't below the frame count, 7 not as many times as numbers or not a kind for each frame.
 fn refusal(frames: u32, numbers: &[u32], times: usize, room: usize) -> u32
     ensures { λ r. ⌜ r ≡ refusal frames (now (numbers .entry)) times room ⌝ }
 {
@@ -128,7 +128,8 @@ fn refusal(frames: u32, numbers: &[u32], times: usize, room: usize) -> u32
     if !few {
         return 20;
     }
-    if !below(frames, numbers) {
+    let numbered = below(frames, numbers);
+    if !numbered {
         return 21;
     }
     if !equal {
@@ -161,15 +162,15 @@ pub fn playout(
 fn enough(
     start: u32,
     depth: u32,
-    most: usize,
+    allowed: usize,
     numbers: &[u32],
     times: &[u32],
     out: &mut [u32],
 ) -> bool
-    ensures { λ r. ⌜ (r ≡ enough start most (arrivals (now (numbers .entry)) (now (times .entry))) (length (now (out .entry))) depth) × (now (out .exit) ≡ kinds start depth (arrivals (now (numbers .entry)) (now (times .entry))) (length (now (out .entry)))) ⌝ }
+    ensures { λ r. ⌜ (r ≡ enough start allowed (arrivals (now (numbers .entry)) (now (times .entry))) (length (now (out .entry))) depth) × (now (out .exit) ≡ kinds start depth (arrivals (now (numbers .entry)) (now (times .entry))) (length (now (out .entry)))) ⌝ }
 {
     kinds(start, depth, numbers, times, out);
-    lost(out) <= most
+    lost(out) <= allowed
 }
 
 // The half in which the least depth is, by what was found at the middle.
@@ -191,10 +192,10 @@ fn half(b: Between, middle: u32, enough: bool) -> Between
 
 // The least depth at which at most so many frames are lost; the kinds are then those of that depth, and where there is none those of the greatest depth. A greater depth never loses more, so
 // that halving finds it.
-pub fn least(start: u32, most: usize, numbers: &[u32], times: &[u32], out: &mut [u32]) -> Found
-    ensures { λ r. ⌜ Answer.answer r (now (out .exit)) ≡ least start most (arrivals (now (numbers .entry)) (now (times .entry))) (length (now (out .entry))) ⌝ }
+pub fn least(start: u32, allowed: usize, numbers: &[u32], times: &[u32], out: &mut [u32]) -> Found
+    ensures { λ r. ⌜ Answer.answer r (now (out .exit)) ≡ least start allowed (arrivals (now (numbers .entry)) (now (times .entry))) (length (now (out .entry))) ⌝ }
 {
-    if !enough(start, DEEPEST, most, numbers, times, out) {
+    if !enough(start, DEEPEST, allowed, numbers, times, out) {
         return Found::Never;
     }
     let mut b = Between {
@@ -203,7 +204,7 @@ pub fn least(start: u32, most: usize, numbers: &[u32], times: &[u32], out: &mut 
     };
     while b.low < b.high {
         let middle = b.low + (b.high - b.low) / 2;
-        let found = enough(start, middle, most, numbers, times, out);
+        let found = enough(start, middle, allowed, numbers, times, out);
         b = half(b, middle, found);
     }
     kinds(start, b.high, numbers, times, out);

@@ -1,5 +1,4 @@
 -- `playout::half` meets its contract.
-use mathlib.Core.Path.{refl}
 use borrow.Author.Needs.{needs}
 use Rattle.playout.specs.Least.{half}
 use Rattle.playout.proofs.half.Statement.{statement}

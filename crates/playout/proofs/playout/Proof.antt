@@ -4,7 +4,7 @@ use native.Mathlib.Omega.{arith}
 use lib.ListN.{length}
 use borrow.Author.Needs.{needs}
 use Rattle.playout.specs.Playout.{arrivals, kinds}
-use Rattle.playout.specs.Laws.{playout-refused, playout-done, lost-most, length-kinds, few}
+use Rattle.playout.specs.Laws.{playout-refused, playout-done, lost-most, length-kinds, accepted}
 use Rattle.playout.proofs.playout.Statement.{statement}
 use Rattle.playout.proofs.playout.Tie as tie
 
@@ -16,7 +16,7 @@ cast-t17 c =
     let k = c .before .before .before .before in
     let e = k .before .before in
     let s = e .before .before .before .before .before in
-    let h = few (s .args .frames) (s .args .numbers .now) (length (s .args .times .now)) (length (s .args .out .now)) (sym (e .before .refusal .ensures) ∙ e .if1 .left) in
+    let h = accepted (s .args .frames) (s .args .numbers .now) (length (s .args .times .now)) (length (s .args .out .now)) (sym (e .before .refusal .ensures) ∙ e .if1 .left) in
     let n : length (k .kinds .last .1 .1 .1 .1 .0) ≡ length (s .args .out .now) = ap length (k .kinds .ensures) ∙ length-kinds (s .args .start) (s .args .depth) (arrivals (s .args .numbers .now) (s .args .times .now)) (length (s .args .out .now)) in
     record { fits = omega (arith, c .lost .ensures, lost-most (k .kinds .last .1 .1 .1 .1 .0), n, h .0, h .4) }
 
@@ -25,7 +25,7 @@ returns-2 c =
     let k = c .before .before .before .before in
     let e = k .before .before in
     let s = e .before .before .before .before .before in
-    let h = few (s .args .frames) (s .args .numbers .now) (length (s .args .times .now)) (length (s .args .out .now)) (sym (e .before .refusal .ensures) ∙ e .if1 .left) in
+    let h = accepted (s .args .frames) (s .args .numbers .now) (length (s .args .times .now)) (length (s .args .out .now)) (sym (e .before .refusal .ensures) ∙ e .if1 .left) in
     playout-done _ (s .args .start) (s .args .depth) _ _ _ _ (e .before .refusal .ensures) (e .if1 .left) _ _ (k .kinds .ensures ∙ ap (kinds _ _ _) (h .4)) (c .lost .ensures)
 
 pub playout-spec : {M : Type 1} → statement M

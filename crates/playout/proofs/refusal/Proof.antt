@@ -1,5 +1,5 @@
 -- `playout::refusal` meets its contract: each test picks its case.
-use mathlib.Core.Path.{_≡_, sym, _∙_}
+use mathlib.Core.Path.{sym, _∙_}
 use mathlib.Core.Bool.{Bool, _&&_}
 use mathlib.Core.List.{List}
 use Prim.Native.Nat.{ℕ}
@@ -26,21 +26,21 @@ unfolding refusal
 returns-2 c =
     let b = c .before in
     let s = b .before .before .before in
-    rw (not-false (few (s .args .frames) (s .args .numbers .now)) (b .before .if1 .left), sym (b .below .ensures) ∙ not-true _ (c .if2 .taken))
+    rw (not-false (few (s .args .frames) (s .args .numbers .now)) (b .before .if1 .left), sym (b .below .ensures) ∙ not-true (b .below .result) (c .if2 .taken))
 
 returns-3 : tie.Need-returns-3
 unfolding refusal
 returns-3 c =
     let b = c .before .before in
     let s = b .before .before .before in
-    rw (not-false (few (s .args .frames) (s .args .numbers .now)) (b .before .if1 .left), sym (b .below .ensures) ∙ not-false _ (c .before .if2 .left), not-true (equal (s .args .frames) (s .args .numbers .now) (s .args .times) (s .args .room)) (c .if3 .taken))
+    rw (not-false (few (s .args .frames) (s .args .numbers .now)) (b .before .if1 .left), sym (b .below .ensures) ∙ not-false (b .below .result) (c .before .if2 .left), not-true (equal (s .args .frames) (s .args .numbers .now) (s .args .times) (s .args .room)) (c .if3 .taken))
 
 returns-4 : tie.Need-returns-4
 unfolding refusal
 returns-4 c =
     let b = c .before .before in
     let s = b .before .before .before in
-    rw (not-false (few (s .args .frames) (s .args .numbers .now)) (b .before .if1 .left), sym (b .below .ensures) ∙ not-false _ (c .before .if2 .left), not-false (equal (s .args .frames) (s .args .numbers .now) (s .args .times) (s .args .room)) (c .if3 .left))
+    rw (not-false (few (s .args .frames) (s .args .numbers .now)) (b .before .if1 .left), sym (b .below .ensures) ∙ not-false (b .below .result) (c .before .if2 .left), not-false (equal (s .args .frames) (s .args .numbers .now) (s .args .times) (s .args .room)) (c .if3 .left))
 
 pub refusal-spec : {M : Type 1} → statement M
 refusal-spec = tie.close (tie.spec (λ c. search needs) returns (λ c κs. search needs) returns-2 returns-3 returns-4)

@@ -1,6 +1,5 @@
 -- `playout::take` meets its contract.
-use mathlib.Core.Path.{_≡_, refl, sym, ap, _∙_}
-use native.Mathlib.Omega.{arith}
+use mathlib.Core.Path.{sym}
 use borrow.Author.Needs.{needs}
 use Rattle.playout.specs.Laws.{take-in, take-in-past}
 use Rattle.playout.proofs.take.Statement.{statement}

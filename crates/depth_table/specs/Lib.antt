@@ -1,0 +1,3 @@
+-- The definitions that the contracts of `depth_table` cite, and their laws.
+pub mod Table
+pub mod Laws

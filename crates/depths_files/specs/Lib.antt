@@ -1,0 +1,4 @@
+-- What the contracts of `depths_files` cite.
+pub mod Held
+pub mod Rows
+pub mod Laws
