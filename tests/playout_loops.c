@@ -1,5 +1,6 @@
 /* The trying of a playout depth in plain C, to time the library beside: once as the wording has it, a loop over the frames and in it one over the arrivals, and once linear: every kind is 3, then each arrival that is in time makes its frame's 0, then
- * the 3s are counted; and once more so, but without a branch: each arrival's kind is masked, by all bits where the difference of the times is negative, else by none. All refuse what the library does. A file of its own, compiled by -O2, so that nothing is known here of where they are called. */
+ * the 3s are counted; and once more so, but written without a branch: each arrival's kind is masked, by all bits where the difference of the times is negative, else by none (gcc 12 leaves it so, clang 14 makes a branch of it again). All refuse what the
+ * library does. A file of its own, compiled by -O2, so that nothing is known here of where they are called. */
 #include "playout_loops.h"
 
 enum { MOST = 4096, VOICE = 0, LOST = 3 };

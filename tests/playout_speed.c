@@ -1,6 +1,6 @@
 /* Times the library's trying of playout depths beside the loops of playout_loops.c by two compilers: tests/playout_speed builds and runs it. Frames and arrivals are 16 to 4,096 each, an arrival for each frame, in order or shuffled, all in time or half of
- * them late. Every size has as many calls as make the same number of arrivals in all, TOTAL, so that a greater one doesn't differ by its memory, but for the double loops, which take longer: MOST; they stay in the core's own cache, but are too many to be foreseen by the branch predictor. Every round
- * times each way once, a different one first, in processor time on one core. Medians of all rounds, and medians of the rounds' ratios. */
+ * them late. Every size has as many calls as make the same number of arrivals in all, TOTAL, so that a greater one doesn't differ by its memory; the double loops, which take longer, have MOST. They stay in the core's own cache, but are too many to be
+ * foreseen by the branch predictor. Every round times each way once, a different one first, in processor time on one core. Medians of all rounds, and medians of the rounds' ratios. */
 #define _GNU_SOURCE
 #include "playout_loops.h"
 #include <holdamek.h>
