@@ -81,7 +81,7 @@ fn why(option: u32) {
     } else {
         files::say(
             b"depths",
-            b"--lost takes a number of frames, or a percentage, at most 100, with % behind it",
+            b"--lost takes a number of frames, or a whole percentage, at most 100, with % behind it; for 0.5 % give the number of frames",
         );
     }
 }
@@ -126,7 +126,7 @@ fn main() {
         a,
         b"depths",
         &usage,
-        b"Prints how many frames would be lost at each playout depth, a row a depth: the depth in milliseconds, the lost frames, and their percentage.\nThe last line has the least depth at which no more than the wanted number is lost.\n\n  depths --lost 2% monday.arrivals >monday.depths\n  plot/depths -o monday.png monday.depths\n\n  ARRIVALS    a file or a named pipe; else they are read from standard input. An arrival a line: the frame's number, a space, tab or comma,\n              and its time in milliseconds, decimal. Any order, and frames that arrive twice, are allowed\n  --frames N  how many frames the call has; else one more than the greatest number\n  --start MS  when frame 0 is played at depth 0; else so that depth 0 is just enough for the fastest frame\n  --to MS     the greatest depth, 200 if not given\n  --step MS   from one depth to the next, 10 if not given\n  --lost N    how many frames may be lost; P% is a part of all frames, rounded down; 1% if not given\n  --help      this text\n  --version   the version\n\nA call has at most 360,000 frames and arrivals. A text that is refused prints no table but\n(refused (code C) (line L)), and the reason is said on standard error.\n",
+        b"Prints how many frames would be lost at each playout depth, a row a depth: the depth in milliseconds, the lost frames, and their percentage.\nThe last line has the least depth at which no more than the wanted number is lost.\n\n  depths --lost 2% monday.arrivals >monday.depths\n  plot/depths -o monday.png monday.depths\n\n  ARRIVALS    a file or a named pipe; else they are read from standard input. An arrival a line: the frame's number, a space, tab or comma,\n              and its time in milliseconds, decimal. Any order, and frames that arrive twice, are allowed\n  --frames N  how many frames the call has; else one more than the greatest number\n  --start MS  when frame 0 is played at depth 0; else so that depth 0 is just enough for the fastest frame\n  --to MS     no depth above it, 200 if not given\n  --step MS   from one depth to the next, 10 if not given\n  --lost N    how many frames may be lost; P% is a part of all frames, P a whole number, rounded down; 1% if not given\n  --help      this text\n  --version   the version\n\nA call has at most 360,000 frames and arrivals. A text that is refused prints no table but\n(refused (code C) (line L)), and the reason is said on standard error.\n",
     );
     if !done {
         let w = b.wanted;

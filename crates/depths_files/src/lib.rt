@@ -21,6 +21,16 @@ pub(crate) fn rest(most: u64, more: bool) -> u64
     if more { most - 1 } else { 0 }
 }
 
+// Says that nothing arrived: a filter that lets no packet through must not pass for a call without losses.
+fn unheard(arrivals: usize) {
+    if arrivals == 0 {
+        files::say(
+            b"depths",
+            b"no arrivals: if these are from a capture, see whether its filter lets any packet through",
+        );
+    }
+}
+
 // Prints the table of an open text. Where a line is refused its form is printed alone: 9 for a line that is none, 20 for more frames or arrivals than an hour has, 21 for an arrival of no frame; in
 // the order of the lines. The reason is on standard error, as it is where the text can't be read.
 pub fn depths(w: Wanted, fd: i32, name: &[u8]) {
@@ -36,6 +46,7 @@ pub fn depths(w: Wanted, fd: i32, name: &[u8]) {
     let mut times = [0u32; MOST];
     let text = reading::read(w, fd, name, &mut numbers, &mut times);
     if text.good {
+        unheard(text.arrivals);
         rows::print(w, text.arrivals, &numbers, &times);
     }
 }
