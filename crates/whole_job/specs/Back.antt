@@ -77,7 +77,13 @@ count-fit : (p : Saved) → InBounds p → Words.Fit count-widths (Count.numbers
 unfolding count-widths Count.numbers
 count-fit p s =
     let m = numbers-small (p .counts) (s .counts) in
-    Words.more 4 _ (omega arith) (m 0) (Words.more 4 _ (omega arith) (m 1) Words.none)
+    Words.more 4 _ (omega arith) (m 0)
+    (Words.more 4 _ (omega arith) (m 1)
+    (Words.more 4 _ (omega arith) (m 2)
+    (Words.more 4 _ (omega arith) (m 3)
+    (Words.more 4 _ (omega arith) (m 4)
+    (Words.more 4 _ (omega arith) (m 5)
+    (Words.more 4 _ (omega arith) (m 6) Words.none))))))
 
 -- ---- a packed job
 
