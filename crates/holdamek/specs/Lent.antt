@@ -14,7 +14,7 @@ use Rattle.agree.specs.declared.Agreed.the-variants as agreed
 use Rattle.decoder.specs.declared.Framed.the-variants as framing
 use Rattle.decoder.specs.Call as Frame
 use Rattle.frame_delays.specs.declared.Scanned.the-variants as scanning
-use Rattle.frame_delays.specs.FrameDelays as Scan
+use Rattle.frame_delays.specs.Delays as Scan
 use Rattle.count.specs.declared.Counts.{Counts}
 use Rattle.count.specs.declared.Counted.{Counted}
 use Rattle.count.specs.declared.Counted.the-variants as counted
@@ -94,12 +94,12 @@ counts-of l =
       thirds = getD l 2 0;
       whole = getD l 3 0;
       relative = getD l 4 0;
-      «bad_parity» = getD l 5 0;
+      parity = getD l 5 0;
       concealed = getD l 6 0
     }
 
 abbrev pub numbers-of : Counts → List ℕ
-numbers-of c = c .frames ∷ c .lost ∷ c .thirds ∷ c .whole ∷ c .relative ∷ c .«bad_parity» ∷ c .concealed ∷ []
+numbers-of c = c .frames ∷ c .lost ∷ c .thirds ∷ c .whole ∷ c .relative ∷ c .parity ∷ c .concealed ∷ []
 
 -- the rules are handed in as numbers
 abbrev pub rules-known : (first second : ℕ) → Bool

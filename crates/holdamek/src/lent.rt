@@ -58,7 +58,7 @@ pub(crate) fn counts_of(n: &[u32; 7]) -> Counts
         thirds: n[2],
         whole: n[3],
         relative: n[4],
-        bad_parity: n[5],
+        parity: n[5],
         concealed: n[6],
     }
 }
@@ -73,7 +73,7 @@ pub(crate) fn numbers_of(c: Counts) -> [u32; 7]
         c.thirds,
         c.whole,
         c.relative,
-        c.bad_parity,
+        c.parity,
         c.concealed,
     ]
 }

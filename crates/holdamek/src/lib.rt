@@ -13,7 +13,7 @@ ghost use Rattle.playout.specs.Playout.{playout};
 ghost use Rattle.state.specs.State as state;
 ghost use Rattle.agree.specs.Agree.{agree};
 ghost use Rattle.decoder.specs.Call.{frame};
-ghost use Rattle.frame_delays.specs.FrameDelays.{frame-delays};
+ghost use Rattle.frame_delays.specs.Delays.{frame-delays};
 ghost use Rattle.line.specs.Line.{line};
 ghost use Rattle.line.specs.Write.{write};
 ghost use Rattle.compare_step.specs.Compare as comparison;
