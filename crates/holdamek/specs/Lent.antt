@@ -95,7 +95,7 @@ counts-of l =
       whole = getD l 3 0;
       relative = getD l 4 0;
       parity = getD l 5 0;
-      concealed = getD l 6 0
+      concealed = getD l 6 0;
     }
 
 abbrev pub numbers-of : Counts → List ℕ

@@ -18,6 +18,7 @@ ghost use Rattle.line.specs.Line.{line};
 ghost use Rattle.line.specs.Write.{write};
 ghost use Rattle.compare_step.specs.Compare as comparison;
 ghost use Rattle.holdamek.specs.Lent.{comparing, lend-compare, framed, lend-frame, scanned, lend-delays, lent, lend-line, lend-write, lend-playout, counting, lend-count, agreeing, lend-agree};
+
 mod lent;
 
 #[no_mangle]
