@@ -151,7 +151,7 @@ fits-more kind r c d f h =
     let a = adds kind r c in
     let g = lost-more (eqb kind 0) (c .lost) (c .frames) (fitting c f .part) in
     rw (e .1)
-    (fits-of (with-both kind r c) (omega (arith, a .frames, m)) (rw (a .frames, a .lost) g) (omega (arith, a .two, a .frames, fitting c f .both)))
+        (fits-of (with-both kind r c) (omega (arith, a .frames, m)) (rw (a .frames, a .lost) g) (omega (arith, a .two, a .frames, fitting c f .both)))
 
 -- a refusal has a number, and of a frame of one of the kinds it is 10
 pub refused-some : (kind n : ℕ) (r : Rules) (c : Counts) → count kind r c ≡ Refused n → 0 < n

@@ -53,8 +53,7 @@ fn full(c: Counts) -> bool
     ensures { λ r. ⌜ r ≡ full c ⌝ }
 {
     let frames = (c.frames >= MOST) | (c.lost >= MOST);
-    let coded = (c.thirds >= MOST_SUBFRAMES)
-        | ((c.whole >= MOST_SUBFRAMES) | (c.relative >= MOST_SUBFRAMES));
+    let coded = (c.thirds >= MOST_SUBFRAMES) | ((c.whole >= MOST_SUBFRAMES) | (c.relative >= MOST_SUBFRAMES));
     let carried = (c.parity >= MOST_SUBFRAMES) | (c.concealed >= MOST_SUBFRAMES);
     frames | (coded | carried)
 }
@@ -63,8 +62,7 @@ fn full(c: Counts) -> bool
 fn subframes(c: Counts) -> u64
     ensures { λ r. ⌜ r ≡ subframes c ⌝ }
 {
-    c.thirds as u64
-        + (c.whole as u64 + (c.relative as u64 + (c.parity as u64 + c.concealed as u64)))
+    c.thirds as u64 + (c.whole as u64 + (c.relative as u64 + (c.parity as u64 + c.concealed as u64)))
 }
 
 // Whether a call can have these counts.
