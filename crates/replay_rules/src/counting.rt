@@ -29,7 +29,7 @@ fn listed(c: Counts) -> [u32; 7] {
         c.thirds,
         c.whole,
         c.relative,
-        c.bad_parity,
+        c.parity,
         c.concealed,
     ]
 }
@@ -41,7 +41,7 @@ fn of_list(c: [u32; 7]) -> Counts {
         thirds: c[2],
         whole: c[3],
         relative: c[4],
-        bad_parity: c[5],
+        parity: c[5],
         concealed: c[6],
     }
 }
