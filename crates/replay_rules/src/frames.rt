@@ -23,7 +23,9 @@ struct Found {
 }
 
 fn numbers(r: Rules) -> [u32; 2] {
-    [rule::number(r.first), rule::number(r.second)]
+    let first = r.first;
+    let second = r.second;
+    [rule::number(first), rule::number(second)]
 }
 
 fn refused(code: u32) -> Found {
@@ -37,6 +39,7 @@ fn refused(code: u32) -> Found {
 fn handed_up(r: Report) -> Found {
     let first = r.first;
     let second = r.second;
+    let rules = numbers(r.rules);
     Found {
         code: 0,
         delays: [
@@ -45,7 +48,7 @@ fn handed_up(r: Report) -> Found {
             second.integer,
             second.fraction,
         ],
-        rules: numbers(r.rules),
+        rules: rules,
     }
 }
 
@@ -82,14 +85,17 @@ fn compare_rules(line: &[i16], found: [u32; 2], row: usize, tally: &mut [u32; 64
 }
 
 // Compares what one of the two calls gave: `row` is that of its code.
-fn compare(line: &[i16], found: Found, carried: i16, row: usize, tally: &mut [u32; 64]) {
+fn compare(line: &[i16], found: Found, carried: i16, row: usize, tally: &mut [u32; 64])
+    requires { ⌜ row ≤ 20 ⌝ }
+{
     let due = part::number(line, 13) as u32;
     tally::count(tally, row, found.code != due);
     tally::word(tally, row + 3, part::word(line, 20, 0), carried);
     if due == 0 {
         let delays = found.delays;
         tally::words(tally, row + 1, line, 14, &delays);
-        compare_rules(line, found.rules, row + 2, tally);
+        let rules = found.rules;
+        compare_rules(line, rules, row + 2, tally);
     }
 }
 

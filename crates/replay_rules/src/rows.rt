@@ -1,4 +1,5 @@
 // The rows of the tally: what each counts, and how they are printed.
+ghost use Prim.Native.Nat.{_≤_};
 use replay::stream;
 use replay::tally;
 
@@ -41,7 +42,9 @@ pub(crate) fn differing(tally: &[u32; 64]) -> u32 {
 }
 
 // The rows of a frame by one of the two calls.
-fn print_frame(name: &[u8], carried: &[u8], tally: &[u32; 64], row: usize) {
+fn print_frame(name: &[u8], carried: &[u8], tally: &[u32; 64], row: usize)
+    requires { ⌜ row ≤ 20 ⌝ }
+{
     stream::print_row(name, tally, row);
     stream::print_row(b"its delays", tally, row + 1);
     stream::print_row(b"its rules", tally, row + 2);
