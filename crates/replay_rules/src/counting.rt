@@ -62,7 +62,11 @@ fn answer(counted: Counted) -> Found {
 // The counters with a frame more, or as they are where it is refused.
 pub(crate) fn more(kind: u32, rules: Rules, counts: [u32; 7]) -> [u32; 7] {
     let found = answer(count::count(kind, rules, of_list(counts)));
-    if found.code == 0 { found.counts } else { counts }
+    if found.code == 0 {
+        found.counts
+    } else {
+        counts
+    }
 }
 
 // The counters of a line that begin at word `from`.
@@ -93,11 +97,7 @@ pub(crate) fn count(line: &[i16], tally: &mut [u32; 64]) {
         first: rule::of_number(part::number(line, 2) as u32),
         second: rule::of_number(part::number(line, 3) as u32),
     };
-    let found = answer(count::count(
-        wide(line, 0),
-        rules,
-        of_list(counters(line, 5)),
-    ));
+    let found = answer(count::count(wide(line, 0), rules, of_list(counters(line, 5))));
     let due = part::number(line, 4) as u32;
     tally::count(tally, rows::COUNT_CODE, found.code != due);
     if due == 0 {
@@ -112,9 +112,5 @@ pub(crate) fn number(line: &[i16], tally: &mut [u32; 64]) {
     let due = part::number(line, 2) == 1;
     let made = rule::number(rule::of_number(n));
     tally::count(tally, rows::KNOWN, rule::known(n) != due);
-    tally::count(
-        tally,
-        rows::OF_NUMBER,
-        made != part::number(line, 3) as u32,
-    );
+    tally::count(tally, rows::OF_NUMBER, made != part::number(line, 3) as u32);
 }
