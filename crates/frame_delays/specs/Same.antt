@@ -103,7 +103,7 @@ same t b kind payload out ht hb ho =
     by : (p : Bool)
         → cond p (answer (Done (rule.report d (rule.delays d (carried b) .first) (rule.delays d (carried b) .second))) (rule.delays d (carried b) .state .old)) (answer (Refused n) (carried b))
         ≡ (let a = cond p (Call.answer (Framed.Done (Call.report d (f .decoded))) (write (f .state)) (f .samples)) (Call.answer (Framed.Refused n) b out) in
-          answer (as-scanned (Call.handed a)) (carried (Call.block a)))
+        answer (as-scanned (Call.handed a)) (carried (Call.block a)))
     by true = rw (carried-write t d b) (done-same t d b)
     by false = refl
 
@@ -150,6 +150,23 @@ initial : (t : List ℤ) → fresh t .params .pitch .old ≡ scalar t InitialPre
 unfolding fresh fresh-params
 initial t = refl
 
+-- and the delay that is carried on behind the last
+unfoldable pub scanned-left : List Input → ℤ → ℤ
+scanned-left [] old = old
+scanned-left (x ∷ xs) old = scanned-left xs (left (frame-delays old (x .kind) (x .payload)))
+
+unfoldable pub block-left : List ℤ → List Input → List ℤ → List ℤ
+block-left t [] b = b
+block-left t (x ∷ xs) b = block-left t xs (Call.block (Call.frame t b (x .kind) (x .payload) (replicate frame-length (pos 0))))
+
+pub all-carried : (t : List ℤ) → table-check t ≡ 0 → (xs : List Input) (b : List ℤ) → state-check b ≡ 0 → carried (block-left t xs b) ≡ scanned-left xs (carried b)
+unfolding block-left scanned-left
+all-carried t ht [] b hb = refl
+all-carried t ht (x ∷ xs) b hb =
+    let a = Call.frame t b (x .kind) (x .payload) (replicate frame-length (pos 0)) in
+    let e = same t b (x .kind) (x .payload) (replicate frame-length (pos 0)) ht hb (length-replicate frame-length (pos 0)) in
+    rw e (all-carried t ht xs (Call.block a) (frame-accepted t b (x .kind) (x .payload) (replicate frame-length (pos 0)) hb))
+
 -- from the fresh state: the scan begins with the initial delay of the tables
 pub from-fresh : (t : List ℤ) → table-check t ≡ 0 → (xs : List Input) → called t xs (write (fresh t)) ≡ scanned xs (scalar t InitialPreviousPitchDelay)
 from-fresh t ht xs =
@@ -167,7 +184,8 @@ by-rules : (d : Decision) (any : SpeechParams) (old n : ℤ)
     ≡ record { first = first; second = of-rule (r .second) (fields d any) (given (r .second) (carried-second d old) (first .integer)); rules = r }
 by-rules d any old n = rw (second-determined d any old, first-determined d any old n)
 
--- of every call that is not refused: by the rule, the fields and the delay carried into the subframe or, for rule 3, the first subframe's
+-- of every call that is not refused: by the rule, the fields and the delay carried into the subframe or, for rule 3, the first subframe's. `any` are the fields of a concealed
+-- frame, which has none, and `n` the number that a first subframe's rule never reads: both are free
 pub by-rule : (t b : List ℤ) (kind : ℕ) (payload : List ℕ) (out : List ℤ) (any : SpeechParams) (n : ℤ) → Call.number (Call.frame t b kind payload out) ≡ 0
     → let d = decide kind payload in
     let r = rule.rules d in
