@@ -10,7 +10,7 @@ CONFERENCE = os.path.abspath(os.environ.get("CONFERENCE", os.path.join(ROOT, "ta
 DEPTHS = os.path.abspath(os.environ.get("DEPTHS", os.path.join(ROOT, "target/bin/depths")))
 DECODE = os.path.abspath(os.environ.get("DECODE", os.path.join(ROOT, "target/bin/decode")))
 TABLES = os.path.join(ROOT, "examples/tables.g729")
-VERSION = b"holdamek 0.9.0\n"
+VERSION = b"holdamek 0.10.0\n"
 
 
 def a_line(r):
