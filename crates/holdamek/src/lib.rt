@@ -207,10 +207,12 @@ pub extern "C" fn holdamek_write_line(
 pub extern "C" fn holdamek_count(kind: u32, first: u32, second: u32, counts: &mut [u32; 7]) -> u32
     ensures { λ r. ⌜ counting r (now (counts .exit)) ≡ lend-count kind first second (now (counts .entry)) ⌝ }
 {
-    if !kind::known(kind) {
+    let kind_known = kind::known(kind);
+    let rules_known = lent::rules_known(first, second);
+    if !kind_known {
         return 5;
     }
-    if !lent::rules_known(first, second) {
+    if !rules_known {
         return 24;
     }
     let answer = count::count(

@@ -8,14 +8,14 @@ use Rattle.holdamek.proofs.holdamek_count.Tie as tie
 
 returns : tie.Need-returns
 unfolding lend-count
-returns c = rw (sym (c .before .known .ensures) ∙ not-true _ (c .if1 .taken))
+returns c = rw (sym (c .before .before .known .ensures) ∙ not-true _ (c .if1 .taken))
 
 returns-2 : tie.Need-returns-2
 unfolding lend-count
 returns-2 c =
-    let r = c .before in
-    let k = r .before in
-    rw (sym (k .before .known .ensures) ∙ not-false _ (k .if1 .left), sym (r .rules-known .ensures) ∙ not-true _ (c .if2 .taken))
+    let k = c .before in
+    let r = k .before in
+    rw (sym (r .before .known .ensures) ∙ not-false _ (k .if1 .left), sym (r .rules-known .ensures) ∙ not-true _ (c .if2 .taken))
 
 returns-3 : tie.Need-returns-3
 unfolding lend-count lend-counted
@@ -25,10 +25,10 @@ returns-3 c =
     let m = n .before in
     let b = m .before .before in
     let e = b .before in
-    let r = e .before in
-    let k = r .before in
+    let k = e .before in
+    let r = k .before in
     rw (
-      sym (k .before .known .ensures) ∙ not-false _ (k .if1 .left),
+      sym (r .before .known .ensures) ∙ not-false _ (k .if1 .left),
       sym (r .rules-known .ensures) ∙ not-false _ (e .if2 .left),
       sym (b .rules-of-numbers .ensures),
       sym (m .counts-of .ensures),
@@ -44,10 +44,10 @@ returns-4 c =
     let m = n .before in
     let b = m .before .before in
     let e = b .before in
-    let r = e .before in
-    let k = r .before in
+    let k = e .before in
+    let r = k .before in
     rw (
-      sym (k .before .known .ensures) ∙ not-false _ (k .if1 .left),
+      sym (r .before .known .ensures) ∙ not-false _ (k .if1 .left),
       sym (r .rules-known .ensures) ∙ not-false _ (e .if2 .left),
       sym (b .rules-of-numbers .ensures),
       sym (m .counts-of .ensures),
@@ -59,4 +59,4 @@ returns-4 c =
 pub holdamek-count-spec : {M : Type 1} → statement M
 holdamek-count-spec =
     tie.close
-    (tie.spec (λ c κs. search needs) returns (λ c κs. search needs) returns-2 (λ c κs. search needs) (λ c κs. search needs) (λ c κs. search needs) (λ c. search needs) (λ c. search needs) (λ c κs. search needs) returns-3 returns-4)
+    (tie.spec (λ c κs. search needs) (λ c κs. search needs) returns returns-2 (λ c κs. search needs) (λ c κs. search needs) (λ c κs. search needs) (λ c. search needs) (λ c. search needs) (λ c κs. search needs) returns-3 returns-4)
