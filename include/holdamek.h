@@ -87,7 +87,7 @@ enum holdamek_rule {
     HOLDAMEK_RULE_WHOLE = 2,          /* coded whole: first subframe, P1 197 or more */
     HOLDAMEK_RULE_RELATIVE = 3,       /* coded relative to the first, by P2: second subframe of every voice frame */
     HOLDAMEK_RULE_BAD_PARITY = 4,     /* carried after bad parity: first subframe, whatever P1 is */
-    HOLDAMEK_RULE_CONCEALED = 5       /* carried in concealment: both subframes of kinds 1 to 3 */
+    HOLDAMEK_RULE_CONCEALED = 5       /* carried in concealment: both subframes of kinds 1 to 3. The second's is one more than the first's, at most 143 */
 };
 
 /* The places of a call's counts. The counter of a rule stands at 1 + its number. */

@@ -34,7 +34,7 @@ def check(code, *_):
 
 def load(functions):
     """The shared library that `make install` installs, each function with its types: without them ctypes would cut lengths to 32 bits."""
-    library = ctypes.CDLL("libholdamek.so.0")
+    library = ctypes.CDLL("libholdamek.so.0.10")
     for name, types in functions.items():
         function = getattr(library, name)
         function.argtypes, function.restype, function.errcheck = types, c_uint32, check

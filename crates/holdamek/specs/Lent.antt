@@ -43,7 +43,7 @@ rules-of r = Rule.number (r .rules .first) ∷ Rule.number (r .rules .second) �
 pub data LentFrame : Type 0 where
   framed : ℕ → List ℤ → List ℤ → List ℤ → List ℕ → LentFrame
 
--- of the delays and the rules as they were
+-- a refusal leaves the delays and the rules as they were
 unfoldable pub lend-frame : List ℤ → List ℕ → Frame.Answer → LentFrame
 lend-frame delays rules (Frame.answer (framing.Refused n) b out) = framed n b out delays rules
 lend-frame delays rules (Frame.answer (framing.Done r) b out) = framed 0 b out (delays-of r) (rules-of r)
@@ -53,7 +53,7 @@ lend-frame delays rules (Frame.answer (framing.Done r) b out) = framed 0 b out (
 pub data LentDelays : Type 0 where
   scanned : ℕ → ℤ → List ℤ → List ℕ → LentDelays
 
--- of the delays and the rules as they were
+-- a refusal leaves the delays and the rules as they were
 unfoldable pub lend-delays : List ℤ → List ℕ → Scan.Answer → LentDelays
 lend-delays delays rules (Scan.answer (scanning.Refused n) carried) = scanned n carried delays rules
 lend-delays delays rules (Scan.answer (scanning.Done r) carried) = scanned 0 carried (delays-of r) (rules-of r)
@@ -63,19 +63,19 @@ lend-delays delays rules (Scan.answer (scanning.Done r) carried) = scanned 0 car
 pub data Lent : Type 0 where
   lent : ℕ → ℕ → List ℕ → Lent
 
--- of the kind as it was
+-- a refusal leaves the kind as it was
 unfoldable pub lend-line : ℕ → Line.Answer → Lent
 lend-line before (Line.answer (read.Refused n) bytes) = lent n before bytes
 lend-line before (Line.answer (read.Frame kind) bytes) = lent 0 kind bytes
 
--- of the length as it was
+-- a refusal leaves the length as it was
 unfoldable pub lend-write : ℕ → Write.Answer → Lent
 lend-write before (Write.answer (written.Refused n) bytes) = lent n before bytes
 lend-write before (Write.answer (written.Done length) bytes) = lent 0 length bytes
 
 -- ---- Trying a playout depth: the number, the lost count and the kinds
 
--- of the lost count as it was
+-- a refusal leaves the lost count as it was
 unfoldable pub lend-playout : ℕ → Playout.Answer Planned → Lent
 lend-playout before (Playout.answer (planned.Refused n) kinds) = lent n before kinds
 lend-playout before (Playout.answer (planned.Lost lost) kinds) = lent 0 lost kinds
@@ -108,7 +108,7 @@ rules-known first second = Rule.known first && Rule.known second
 abbrev pub rules-of-numbers : (first second : ℕ) → Rules
 rules-of-numbers first second = record { first = Rule.of-number first; second = Rule.of-number second }
 
--- of the counts as they were
+-- a refusal leaves the counts as they were
 unfoldable pub lend-counted : List ℕ → Counted → Counting
 lend-counted before (counted.Refused n) = counting n before
 lend-counted before (counted.Done c) = counting 0 (numbers-of c)
@@ -126,7 +126,7 @@ lend-count kind first second l =
 pub data Agreeing : Type 0 where
   agreeing : ℕ → ℕ → Agreeing
 
--- of the answer as it was
+-- a refusal leaves the answer as it was
 unfoldable pub lend-agree : ℕ → Agreed → Agreeing
 lend-agree before (agreed.Refused n) = agreeing n before
 lend-agree before agreed.Nothing = agreeing 0 0
