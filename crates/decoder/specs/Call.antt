@@ -9,9 +9,11 @@ use Rattle.block.specs.Places.{frame-length}
 use Rattle.tables.specs.Layout.{table-check}
 use Rattle.kind.specs.Kind.{known, payload-length}
 use Rattle.plc.specs.Kinds.{decide}
+use Rattle.plc.specs.declared.Decision.{Decision}
+use Rattle.rule.specs.declared.Report.{Report}
+use Rattle.rule.specs.Rule as rule
 use Rattle.state.specs.State.{read, write, state-check}
 use Rattle.parameters.specs.declared.Decoded.{Decoded}
-use Rattle.decoder.specs.declared.Report.{Report}
 use Rattle.decoder.specs.declared.Framed.{Framed}
 use Rattle.decoder.specs.declared.Framed.the-variants.{Refused, Done}
 use Rattle.decoder.specs.Frame.{decode}
@@ -32,9 +34,9 @@ refusal t b kind payload room = first-of (table-check t) (first-of (state-check 
 
 -- ---- the answer
 
--- what a frame hands up: the delay that each subframe used
-abbrev pub report : Decoded → Report
-report v = record { first = v .first .delay; second = v .second .delay }
+-- what a frame hands up (change request 12): the delay that each subframe used, and its rule
+abbrev pub report : Decision → Decoded → Report
+report d v = rule.report d (v .first .delay) (v .second .delay)
 
 -- 01's number for each case
 abbrev pub code : Framed → ℕ
@@ -55,6 +57,10 @@ block (answer r b out) = b
 abbrev pub output : Answer → List ℤ
 output (answer r b out) = out
 
+-- the refusal, or what was handed up
+abbrev pub handed : Answer → Framed
+handed (answer r b out) = r
+
 -- ---- the call
 
 -- success writes the state and 80 samples; a refusal leaves both as they were
@@ -62,4 +68,4 @@ unfoldable pub frame : List ℤ → List ℤ → ℕ → List ℕ → List ℤ �
 frame t b kind payload out =
     let f = decode t (decide kind payload) (read b) in
     let n = refusal t b kind payload (length out) in
-    cond (eqb n 0) (answer (Done (report (f .decoded))) (write (f .state)) (f .samples)) (answer (Refused n) b out)
+    cond (eqb n 0) (answer (Done (report (decide kind payload) (f .decoded))) (write (f .state)) (f .samples)) (answer (Refused n) b out)

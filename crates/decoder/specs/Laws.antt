@@ -15,15 +15,15 @@ use Rattle.tables.specs.Layout.{table-check}
 use Rattle.plc.specs.declared.Decision.{Decision}
 use Rattle.kind.specs.Kind.{known, payload-length}
 use Rattle.plc.specs.Kinds.{decide}
+use Rattle.rule.specs.declared.Report.{Report}
 use Rattle.state.specs.State.{read-params, read-signal, read, write-params, write, state-check}
 use Rattle.state.specs.declared.Params.{Params}
 use Rattle.state.specs.Laws.{accepted-of-check, accepted-parts}
 use Rattle.parameters.specs.declared.Decoded.{Decoded}
 use Rattle.parameters.specs.Parameters.{parameters}
-use Rattle.decoder.specs.declared.Report.{Report}
 use Rattle.decoder.specs.declared.Framed.the-variants.{Refused, Done}
 use Rattle.decoder.specs.Frame.{Buffers, buffers, subframe-signal, frame-buffers, frame-signal, decode}
-use Rattle.decoder.specs.Call.{first-of, input-check, refusal, report, answer, number, block, output, frame}
+use Rattle.decoder.specs.Call.{first-of, input-check, refusal, report, answer, number, block, output, handed, frame}
 
 -- ---- signal
 
@@ -43,9 +43,9 @@ module _ (t : List ℤ) (d : Decision) (b : List ℤ) {p : Params} {v : Decoded}
   unfolding decode read
   samples-are = ap (λ (x : Buffers). drop tail-length (x .speech)) signal-is
 
-  pub report-is : {r : Report} → r ≡ report v → r ≡ report (decode t d (read b) .decoded)
+  pub report-is : {r : Report} → r ≡ report d v → r ≡ report d (decode t d (read b) .decoded)
   unfolding decode read
-  report-is q = q ∙ ap report parameters-are
+  report-is q = q ∙ ap (report d) parameters-are
 
   pub block-is : {block : List ℤ} → block ≡ write-params (v .params) ++ (drop frame-length e ++ drop frame-length s) → block ≡ write (decode t d (read b) .state)
   unfolding decode read write
@@ -90,6 +90,11 @@ module _ (t b : List ℤ) (kind : ℕ) (payload : List ℕ) (out : List ℤ) whe
   unfolding frame
   frame-done e = rw (sym frame-number ∙ e) (refl, refl)
 
+  pub frame-handed : number (frame t b kind payload out) ≡ 0
+      → handed (frame t b kind payload out) ≡ Done (report (decide kind payload) (parameters t (decide kind payload) (read-params b)))
+  unfolding frame decode read
+  frame-handed e = rw (sym frame-number ∙ e)
+
   pub frame-refused : (number (frame t b kind payload out) ≡ 0 → ⊥) → (block (frame t b kind payload out) ≡ b) × (output (frame t b kind payload out) ≡ out)
   unfolding frame
   frame-refused q = rw (ne-eqb _ 0 (λ e. q (frame-number ∙ e))) (refl, refl)
@@ -108,7 +113,7 @@ module _ (t b : List ℤ) (kind : ℕ) (payload : List ℕ) (out : List ℤ) {n 
 
   pub done : n ≡ 0 → (speech : List ℤ) {d : Decision} {r : Report} {block samples b′ : List ℤ} → d ≡ decide kind payload → block ≡ write (decode t d (read b) .state)
       → length speech ≡ speech-length → drop tail-length speech ≡ decode t d (read b) .samples → samples ≡ part speech tail-length (length out)
-      → r ≡ report (decode t d (read b) .decoded) → b′ ≡ cond (eqb (length b) state-length) block b → answer (Done r) b′ samples ≡ frame t b kind payload out
+      → r ≡ report d (decode t d (read b) .decoded) → b′ ≡ cond (eqb (length b) state-length) block b → answer (Done r) b′ samples ≡ frame t b kind payload out
   unfolding frame
   done e speech q hb hl hd hs hr eb =
       let s = hs ∙ ap (part speech tail-length) (accepted e .1) ∙ last-part tail-length frame-length speech hl ∙ hd in

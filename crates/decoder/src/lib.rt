@@ -13,16 +13,10 @@ use block::places::STATE_LENGTH;
 use block::places::TAIL_LENGTH;
 use parameters::Decoded;
 use parameters::Subframe;
-use pitch::Delay;
 use plc::Decision;
+use rule::Report;
 
-// What a frame hands up beside its samples: the delay that each subframe used.
-pub struct Report {
-    pub first: Delay,
-    pub second: Delay,
-}
-
-// The answer of the frame call (01): a refusal returns its number and no other value.
+// The answer of the frame call (01; change request 12): the delays that the subframes used, with their rules; a refusal returns its number and no other value.
 pub enum Framed {
     Refused(u32),
     Done(Report),
@@ -110,22 +104,22 @@ pub fn refusal(t: &[i16], b: &[i16], kind: u32, payload: &[u8], room: usize) -> 
     input_check(kind, payload, room)
 }
 
-// What the parameters of a frame hand up.
-fn handed_up(v: Decoded) -> Report
-    ensures { λ r. ⌜ r ≡ report v ⌝ }
+// What a frame hands up: the delays of its parameters, and how they were found.
+fn handed_up(d: Decision, v: Decoded) -> Report
+    ensures { λ r. ⌜ r ≡ report d v ⌝ }
 {
     let a = v.first;
     let b = v.second;
     let first = a.delay;
     let second = b.delay;
-    Report { first, second }
+    rule::handed_up(d, first, second)
 }
 
 // A frame on values: the block that it leaves, its speech and what it hands up, from the block before it.
 fn decode(t: &[i16], d: Decision, b: &[i16]) -> Output
     ensures { λ r. ⌜ r .block ≡ write (decode (now (t .entry)) d (read (now (b .entry))) .state) ⌝ }
     ensures { λ r. ⌜ drop tail-length (r .speech) ≡ decode (now (t .entry)) d (read (now (b .entry))) .samples ⌝ }
-    ensures { λ r. ⌜ r .report ≡ report (decode (now (t .entry)) d (read (now (b .entry))) .decoded) ⌝ }
+    ensures { λ r. ⌜ r .report ≡ report d (decode (now (t .entry)) d (read (now (b .entry))) .decoded) ⌝ }
 {
     let v = parameters::parameters(t, d, state::read_params(b));
     let mut exc = state::read_exc(b);
@@ -133,7 +127,7 @@ fn decode(t: &[i16], d: Decision, b: &[i16]) -> Output
     frame_signal(t, v, &mut exc, &mut speech);
     let p = v.params;
     let block = state::write_block(p, &exc, &speech);
-    let report = handed_up(v);
+    let report = handed_up(d, v);
     Output {
         block,
         speech,

@@ -19,6 +19,8 @@ use Rattle.line.specs.declared.Read.the-variants as Read
 use Rattle.line.specs.Line as Line
 use Rattle.line.specs.Laws as LineLaws
 use Rattle.kind.specs.Kind.{payload-length}
+use Rattle.plc.specs.Kinds.{decide}
+use Rattle.rule.specs.Rule.{rules}
 use Rattle.decoder.specs.declared.Framed.{Framed}
 use Rattle.decoder.specs.Call as Frame
 use Rattle.decoder.specs.Laws.{frame-refused}
@@ -52,7 +54,7 @@ module _ (t b : List ℤ) (from : Progress) (next : Counts) (kind : ℕ) (payloa
   step-done out₀ h e w o = rw (← hf, ← hc, eq-eqb code 0 h, e, w, o)
 
 -- the operation Count
-module _ (t : List ℤ) (job : Job) (kind : ℕ) (payload : List ℕ) {c : Counted} (hc : c ≡ count kind (job .progress .counts)) where
+module _ (t : List ℤ) (job : Job) (kind : ℕ) (payload : List ℕ) {c : Counted} (hc : c ≡ count kind (rules (decide kind payload)) (job .progress .counts)) where
   pub not-counted : {code : ℕ} → c ≡ Count.Refused code → frame-step t job kind payload ≡ stop job code
   unfolding frame-step counted
   not-counted e = rw (← hc, e)
@@ -83,13 +85,13 @@ by-framed P job next a f g = by (eqb (Frame.number a) 0) refl
     by true e = g (eqb-true (Frame.number a) 0 e)
     by false e = f (eqb-false (Frame.number a) 0 e)
 
-pub by-counted : (P : Step → Type 0) (t : List ℤ) (job : Job) (kind : ℕ) (payload : List ℕ) → ((n : ℕ) → count kind (job .progress .counts) ≡ Count.Refused n → P (stop job n))
-    → ((next : Counts) → count kind (job .progress .counts) ≡ Count.Done next → P (framed job next (Frame.frame t (job .block) kind payload (replicate 80 (pos 0)))))
+pub by-counted : (P : Step → Type 0) (t : List ℤ) (job : Job) (kind : ℕ) (payload : List ℕ) → ((n : ℕ) → count kind (rules (decide kind payload)) (job .progress .counts) ≡ Count.Refused n → P (stop job n))
+    → ((next : Counts) → count kind (rules (decide kind payload)) (job .progress .counts) ≡ Count.Done next → P (framed job next (Frame.frame t (job .block) kind payload (replicate 80 (pos 0)))))
     → P (frame-step t job kind payload)
 unfolding frame-step counted
-by-counted P t job kind payload f g = by (count kind (job .progress .counts)) refl
+by-counted P t job kind payload f g = by (count kind (rules (decide kind payload)) (job .progress .counts)) refl
   where
-    by : (c : Counted) → count kind (job .progress .counts) ≡ c → P (counted t job kind payload c)
+    by : (c : Counted) → count kind (rules (decide kind payload)) (job .progress .counts) ≡ c → P (counted t job kind payload c)
     by (Count.Refused n) e = f n e
     by (Count.Done next) e = g next e
 
@@ -105,13 +107,13 @@ by-line P t job l f g = by (Line.line l (replicate 10 0)) refl
 
 -- refused with a number that is not 0, or done
 pub by-step : (P : Step → Type 0) (t : List ℤ) (job : Job) (l : List ℕ) → ((n : ℕ) → (n ≡ 0 → ⊥) → P (stop job n))
-    → ((kind : ℕ) (payload : List ℕ) (next : Counts) → count kind (job .progress .counts) ≡ Count.Done next → P (done job next (Frame.frame t (job .block) kind payload (replicate 80 (pos 0)))))
+    → ((kind : ℕ) (payload : List ℕ) (next : Counts) → count kind (rules (decide kind payload)) (job .progress .counts) ≡ Count.Done next → P (done job next (Frame.frame t (job .block) kind payload (replicate 80 (pos 0)))))
     → P (line-step t job l)
 by-step P t job l f g =
     by-line P t job l
     (λ n bytes e. f n (λ z. omega (arith, LineLaws.refused-some l (replicate 10 0) bytes n e)))
     (λ kind bytes e. by-counted P t job kind _
-    (λ n h. f n (λ z. omega (arith, refused-some kind n (job .progress .counts) h)))
+    (λ n h. f n (λ z. omega (arith, refused-some kind n _ (job .progress .counts) h)))
     (λ next h. by-framed P job next _ (f _) (λ z. g kind _ next h)))
 
 -- ---- a line that is done prints at least the least, one that is refused nothing, and none more than has room

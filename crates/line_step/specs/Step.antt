@@ -12,6 +12,8 @@ use Rattle.count.specs.Count.{count}
 use Rattle.line.specs.declared.Read.the-variants as Read
 use Rattle.line.specs.Line as Line
 use Rattle.kind.specs.Kind.{payload-length}
+use Rattle.plc.specs.Kinds.{decide}
+use Rattle.rule.specs.Rule.{rules}
 use Rattle.decoder.specs.Call as Frame
 use Rattle.print.specs.Print.{pcm, over}
 use Rattle.line_step.specs.declared.Progress.{Progress}
@@ -54,8 +56,9 @@ unfoldable pub counted : List ℤ → Job → ℕ → List ℕ → Counted → S
 counted t job kind payload (Count.Refused code) = stop job code
 counted t job kind payload (Count.Done next) = framed job next (Frame.frame t (job .block) kind payload (replicate 80 (pos 0)))
 
+-- the rules are a function of kind and payload, so that a frame is counted before it is decoded; Frame hands up the same (`frame-handed` of crate decoder)
 unfoldable pub frame-step : List ℤ → Job → ℕ → List ℕ → Step
-frame-step t job kind payload = counted t job kind payload (count kind (job .progress .counts))
+frame-step t job kind payload = counted t job kind payload (count kind (rules (decide kind payload)) (job .progress .counts))
 
 -- Line's answer, with the payload at the front of ten bytes
 unfoldable pub taken : List ℤ → Job → Line.Answer → Step

@@ -78,7 +78,7 @@ fn counted_step(
     Stepped { job, written }
 }
 
-// One frame: the operations Count and Frame, in this order. The first refusal is answered, with lines and counts as they were; else 0 with the line taken
+// One frame: the operations Count, with the rules that Frame will hand up, and Frame, in this order. The first refusal is answered, with lines and counts as they were; else 0 with the line taken
 // and the frame counted, and what it prints at the front of `out`. The bytes behind that are as they were.
 pub fn frame_step(
     t: &[i16],
@@ -92,7 +92,7 @@ pub fn frame_step(
     ensures { λ r. ⌜ r .written ≤ frame-room ⌝ }
 {
     let counts = from.counts;
-    let answer = count::count(kind, counts);
+    let answer = count::count(kind, rule::frame_rules(kind, payload), counts);
     match answer {
         Counted::Refused(code) => stopped(from, code),
         Counted::Done(next) => counted_step(t, b, from, next, kind, payload, out),

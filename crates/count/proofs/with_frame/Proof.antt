@@ -6,14 +6,14 @@ use Rattle.count.specs.Laws.{room}
 use Rattle.count.proofs.with_frame.Statement.{statement}
 use Rattle.count.proofs.with_frame.Tie as tie
 
-add-frames : tie.Need-add-frames
+add-frames : tie.Need-add-next
 add-frames c = record { fits = omega (arith, room (c .before .args .c) (c .before .pre) .frames) }
 
 returns : tie.Need-returns
 unfolding with-frame
 returns c = rw (eq-eqb (c .before .before .args .kind) 0 (omega arith))
 
-add-lost : tie.Need-add-t5
+add-lost : tie.Need-add-next-2
 add-lost c = record { fits = omega (arith, room (c .before .before .before .args .c) (c .before .before .before .pre) .lost) }
 
 returns-2 : tie.Need-returns-2

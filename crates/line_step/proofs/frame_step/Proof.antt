@@ -11,8 +11,9 @@ returns : tie.Need-returns
 returns c =
     let a = c .before .before in
     let k = a .before .before in
-    let s = k .before .before .before .args in (
-      rw (not-counted (now (s .t)) (kept (now (s .b)) (s .from)) (s .kind) (now (s .payload)) (k .count .ensures) (a .answer .given .1))
+    let u = k .before in
+    let s = u .before .before .before .args in (
+      rw (not-counted (now (s .t)) (kept (now (s .b)) (s .from)) (s .kind) (now (s .payload)) (rw (u .frame-rules .ensures) at (k .count .ensures)) (a .answer .given .1))
           (stop-given (now (s .b)) (s .from) _ (now (s .out)) (c .stopped .ensures .0) (c .stopped .ensures .1)),
       omega (arith, c .stopped .ensures .1),
     )
@@ -22,13 +23,14 @@ returns-2 c =
     let d = c .before in
     let a = d .before .before .before .before in
     let k = a .before .before in
-    let s = k .before .before .before .args in (
-      rw (is-counted (now (s .t)) (kept (now (s .b)) (s .from)) (s .kind) (now (s .payload)) (k .count .ensures) (a .answer2 .given .1)) (d .counted-step .ensures .0),
+    let u = k .before in
+    let s = u .before .before .before .args in (
+      rw (is-counted (now (s .t)) (kept (now (s .b)) (s .from)) (s .kind) (now (s .payload)) (rw (u .frame-rules .ensures) at (k .count .ensures)) (a .answer2 .given .1)) (d .counted-step .ensures .0),
       d .counted-step .ensures .1,
     )
 
 pub frame-step-spec : {M : Type 1} → statement M
 frame-step-spec =
     tie.close
-    (tie.spec (λ c κs. search needs) (λ c. search needs) (λ c κs. search needs) (λ c. search needs) (λ c κs. search needs) returns (λ c. search needs)
+    (tie.spec (λ c κs. search needs) (λ c κs. search needs) (λ c. search needs) (λ c κs. search needs) (λ c. search needs) (λ c κs. search needs) returns (λ c. search needs)
     returns-2)

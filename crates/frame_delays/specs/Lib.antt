@@ -1,0 +1,3 @@
+-- The definitions that the contracts of `frame_delays` cite, and the theorem that they are the frame call's delays.
+pub mod Delays
+pub mod Same
