@@ -4,6 +4,7 @@ use Prim.Native.Nat.{ℕ, _+_, _/_, min}
 use lib.IntN.{pos, _+ℤ_, _*ℤ_}
 use Rattle.text.specs.Text.{ascii}
 use Rattle.print.specs.Print.{figure}
+use Rattle.count.specs.declared.Counts.{Counts}
 use Rattle.pitch.specs.declared.Delay.{Delay}
 use Rattle.pitch.specs.Pitch.{nat}
 use Rattle.depth_table.specs.Table.{hundredths, two}
@@ -26,13 +27,20 @@ unfoldable pub sum : ℕ → ℕ → ℕ
 sum a b = min (a + b) 4294967295
 
 -- how many delays each rule has
-unfoldable pub by-rule : (a b c d e : ℕ) → List ℕ
-by-rule a b c d e = figure (ascii "# rules 1 to 5: ") a ++ figure (ascii " ") b ++ figure (ascii " ") c ++ figure (ascii " ") d ++ figure (ascii " ") e ++ ascii "\n"
+unfoldable pub five : (a b c d e : ℕ) → List ℕ
+five a b c d e = figure (ascii "# rules 1 to 5: ") a ++ figure (ascii " ") b ++ figure (ascii " ") c ++ figure (ascii " ") d ++ figure (ascii " ") e ++ ascii "\n"
+
+unfoldable pub by-rule : Counts → List ℕ
+by-rule c = five (c .thirds) (c .whole) (c .relative) (c .parity) (c .concealed)
 
 -- how many of all are carried, and their percentage with two decimals, rounded down
-unfoldable pub share : (carried of : ℕ) → List ℕ
-share carried of =
+unfoldable pub part : (carried of : ℕ) → List ℕ
+part carried of =
     figure (ascii "# carried ") carried ++ figure (ascii " of ") of ++ figure (ascii " delays, ") (hundredths carried of / 100) ++ ascii "." ++ two (hundredths carried of) ++ ascii " %\n"
+
+-- those of rules 4 and 5 are carried; a frame has two
+unfoldable pub share : Counts → List ℕ
+share c = part (sum (c .parity) (c .concealed)) (sum (c .frames) (c .frames))
 
 -- in place of both, where a line is refused
 unfoldable pub refused : (code line : ℕ) → List ℕ

@@ -10,7 +10,7 @@ use Rattle.laws.specs.Range.{mag-add, mag-abs, abs-mul}
 use Rattle.text.specs.Text.{ascii}
 use Rattle.print.specs.Print.{figure, decimal, digits}
 use Rattle.depth_table.specs.Table.{hundredths, two}
-use Rattle.delay_line.specs.DelayLine.{row, by-rule, share, refused}
+use Rattle.delay_line.specs.DelayLine.{row, five, part, refused}
 
 -- ---- thirds in 32 bits
 
@@ -29,20 +29,20 @@ one : row 17 172 1 171 3 ≡ ascii "17 172 1 171 3\n"
 unfolding row figure decimal digits
 one = refl
 
-some-carried : share 20 600 ≡ ascii "# carried 20 of 600 delays, 3.33 %\n"
-unfolding share figure decimal digits hundredths two
+some-carried : part 20 600 ≡ ascii "# carried 20 of 600 delays, 3.33 %\n"
+unfolding part figure decimal digits hundredths two
 some-carried = refl
 
-no-frames : share 0 0 ≡ ascii "# carried 0 of 0 delays, 0.00 %\n"
-unfolding share figure decimal digits hundredths two
+no-frames : part 0 0 ≡ ascii "# carried 0 of 0 delays, 0.00 %\n"
+unfolding part figure decimal digits hundredths two
 no-frames = refl
 
-all-carried : share 720000 720000 ≡ ascii "# carried 720000 of 720000 delays, 100.00 %\n"
-unfolding share figure decimal digits hundredths two
+all-carried : part 720000 720000 ≡ ascii "# carried 720000 of 720000 delays, 100.00 %\n"
+unfolding part figure decimal digits hundredths two
 all-carried = refl
 
-rules : by-rule 1 2 3 4 5 ≡ ascii "# rules 1 to 5: 1 2 3 4 5\n"
-unfolding by-rule figure decimal digits
+rules : five 1 2 3 4 5 ≡ ascii "# rules 1 to 5: 1 2 3 4 5\n"
+unfolding five figure decimal digits
 rules = refl
 
 no-line : refused 9 17 ≡ ascii "# refused code 9 line 17\n"

@@ -6,7 +6,8 @@ ghost use lib.ListN.{length};
 ghost use Rattle.print.specs.Print.{over};
 ghost use Rattle.text.specs.Text.{Put};
 ghost use Rattle.pitch.specs.Pitch.{nat};
-ghost use Rattle.delay_line.specs.DelayLine.{thirds, sum, heading, row, by-rule, share, refused};
+ghost use Rattle.delay_line.specs.DelayLine.{thirds, sum, heading, row, five, by-rule, part, share, refused};
+use count::Counts;
 use depth_table::hundredths;
 use depth_table::two;
 use pitch::Delay;
@@ -84,7 +85,7 @@ fn wide(n: u32) -> u64
 }
 
 // The sum of two numbers, at most the greatest of 32 bits.
-pub fn sum(a: u32, b: u32) -> u32
+fn sum(a: u32, b: u32) -> u32
     ensures { λ r. ⌜ r ≡ sum a b ⌝ }
 {
     let n = wide(a) + wide(b);
@@ -95,8 +96,8 @@ pub fn sum(a: u32, b: u32) -> u32
 }
 
 // `# rules 1 to 5: A B C D E`: how many delays each rule has.
-pub fn by_rule(a: u32, b: u32, c: u32, d: u32, e: u32, out: &mut [u8; ROOM]) -> usize
-    ensures { λ r. ⌜ (r ≤ 256) × ((r ≡ length (by-rule a b c d e)) × (now (out .exit) ≡ over (by-rule a b c d e) (now (out .entry)))) ⌝ }
+fn five(a: u32, b: u32, c: u32, d: u32, e: u32, out: &mut [u8; ROOM]) -> usize
+    ensures { λ r. ⌜ (r ≤ 256) × ((r ≡ length (five a b c d e)) × (now (out .exit) ≡ over (five a b c d e) (now (out .entry)))) ⌝ }
 {
     let i = figure(b"# rules 1 to 5: ", a, 0, out);
     let j = figure(b" ", b, i, out);
@@ -106,9 +107,16 @@ pub fn by_rule(a: u32, b: u32, c: u32, d: u32, e: u32, out: &mut [u8; ROOM]) -> 
     put(b"\n", m, out)
 }
 
+// `# rules 1 to 5: A B C D E` of a call's counts.
+pub fn by_rule(c: Counts, out: &mut [u8; ROOM]) -> usize
+    ensures { λ r. ⌜ (r ≤ 256) × ((r ≡ length (by-rule c)) × (now (out .exit) ≡ over (by-rule c) (now (out .entry)))) ⌝ }
+{
+    five(c.thirds, c.whole, c.relative, c.parity, c.concealed, out)
+}
+
 // `# carried C of S delays, P %`, P with two decimals, rounded down.
-pub fn share(carried: u32, of: u32, out: &mut [u8; ROOM]) -> usize
-    ensures { λ r. ⌜ (r ≤ 256) × ((r ≡ length (share carried of)) × (now (out .exit) ≡ over (share carried of) (now (out .entry)))) ⌝ }
+fn part(carried: u32, of: u32, out: &mut [u8; ROOM]) -> usize
+    ensures { λ r. ⌜ (r ≤ 256) × ((r ≡ length (part carried of)) × (now (out .exit) ≡ over (part carried of) (now (out .entry)))) ⌝ }
 {
     let h = hundredths(carried, of);
     let a = figure(b"# carried ", carried, 0, out);
@@ -117,6 +125,13 @@ pub fn share(carried: u32, of: u32, out: &mut [u8; ROOM]) -> usize
     let d = put(b".", c, out);
     let e = two(h, d, out);
     put(b" %\n", e, out)
+}
+
+// The share of carried delays, those of rules 4 and 5, among two for each frame.
+pub fn share(c: Counts, out: &mut [u8; ROOM]) -> usize
+    ensures { λ r. ⌜ (r ≤ 256) × ((r ≡ length (share c)) × (now (out .exit) ≡ over (share c) (now (out .entry)))) ⌝ }
+{
+    part(sum(c.parity, c.concealed), sum(c.frames, c.frames), out)
 }
 
 // `# refused code C line L`.
