@@ -260,7 +260,7 @@ fn frame(
 {
     let tally = from.tally;
     let counts = tally.counts;
-    let answer = count::count(kind, counts);
+    let answer = count::count(kind, rule::frame_rules(kind, payload), counts);
     match answer {
         Counted::Refused(code) => stopped(from, code),
         Counted::Done(next) => { compared(t, m, from, next, kind, payload, far, wanted, out, pcm) }

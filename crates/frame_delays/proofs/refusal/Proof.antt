@@ -1,26 +1,27 @@
+-- `frame_delays::refusal` meets its contract: the range of the carried delay is tested first.
+use mathlib.Core.Path.{sym, _∙_}
+use mir.Facts.{toZ-ofZ}
 use borrow.Author.Needs.{needs}
+use borrow.Author.Tests.{not-true, not-false}
+use Rattle.decoder.specs.Call.{first-of}
+use Rattle.frame_delays.specs.Delays.{refusal}
 use Rattle.frame_delays.proofs.refusal.Statement.{statement}
 use Rattle.frame_delays.proofs.refusal.Tie as tie
-use Rattle.frame_delays.proofs.refusal.Reads as reads
-use Rattle.frame_delays.proofs.refusal.Lts as lts
-use Rattle.decoder.proofs.input_check.Reads as input-check-reads
-use Rattle.tables.proofs.delay_in_range.Reads as delay-in-range-reads
 
--- src/lib.rt:19:9
-delay-in-range-requires : tie.Need-delay-in-range-requires
-delay-in-range-requires c κs = search needs
-
--- src/lib.rt:20:9
 returns : tie.Need-returns
-returns c = ?
+unfolding refusal first-of
+returns c =
+    let d = c .before in
+    let e = rw (toZ-ofZ (d .before .before .fits .carried)) at (d .delay-in-range .ensures) in
+    rw (sym e ∙ not-true _ (c .if1 .taken))
 
--- src/lib.rt:22:5
-input-check-requires : tie.Need-input-check-requires
-input-check-requires c κs = search needs
-
--- src/lib.rt:16:1
 returns-2 : tie.Need-returns-2
-returns-2 c = ?
+unfolding refusal first-of
+returns-2 c =
+    let k = c .before in
+    let d = k .before in
+    let e = rw (toZ-ofZ (d .before .before .fits .carried)) at (d .delay-in-range .ensures) in
+    rw (sym e ∙ not-false _ (k .if1 .left)) (c .input-check .ensures)
 
 pub refusal-spec : {M : Type 1} → statement M
-refusal-spec = tie.close (tie.spec delay-in-range-requires returns input-check-requires returns-2)
+refusal-spec = tie.close (tie.spec (λ c κs. search needs) returns (λ c κs. search needs) returns-2)
