@@ -60,14 +60,7 @@ pub fn heading(out: &mut [u8; ROOM]) -> usize
 }
 
 // `FRAME DELAY RULE DELAY RULE`: the delay and the rule of the first subframe, then of the second.
-pub fn row(
-    frame: u32,
-    d1: u32,
-    r1: u32,
-    d2: u32,
-    r2: u32,
-    out: &mut [u8; ROOM],
-) -> usize
+pub fn row(frame: u32, d1: u32, r1: u32, d2: u32, r2: u32, out: &mut [u8; ROOM]) -> usize
     ensures { λ r. ⌜ (r ≤ 256) × ((r ≡ length (row frame d1 r1 d2 r2)) × (now (out .exit) ≡ over (row frame d1 r1 d2 r2) (now (out .entry)))) ⌝ }
 {
     let a = figure(b"", frame, 0, out);

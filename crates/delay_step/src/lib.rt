@@ -101,12 +101,7 @@ fn frame_step(
 }
 
 // One line, without its line feed: the operation Line, then its frame. `carried` is the delay that the frames before it carry on.
-pub fn delay_step(
-    carried: &mut i16,
-    from: Progress,
-    text: &[u8],
-    out: &mut [u8; ROOM],
-) -> Stepped
+pub fn delay_step(carried: &mut i16, from: Progress, text: &[u8], out: &mut [u8; ROOM]) -> Stepped
     ensures { λ r. ⌜ Answer.answer (kept (now (carried .exit)) (r .job)) (r .written) (now (out .exit)) ≡ given (delay-step (kept (now (carried .entry)) from) (now (text .entry))) (now (out .entry)) ⌝ }
     ensures { λ r. ⌜ r .written ≤ 256 ⌝ }
 {
