@@ -12,7 +12,8 @@ HOLDAMEK_LIB ?= target/staticlib
 RT ?= rt
 
 VERSION := $(shell sed -n 's/.*HOLDAMEK_VERSION "\(.*\)"/\1/p' include/holdamek.h)
-SONAME := libholdamek.so.$(firstword $(subst ., ,$(VERSION)))
+# before 1.0 a version that raises the second number may change arguments
+SONAME := libholdamek.so.$(basename $(VERSION))
 SHARED := libholdamek.so.$(VERSION)
 archive := $(HOLDAMEK_LIB)/libholdamek.a
 headers := $(DESTDIR)$(INCLUDEDIR)

@@ -1,4 +1,4 @@
-/* Holdamek: the six operations of a G.729 voice path, the writing of lines and of voice frames, the frames of an RTP payload, G.711 legs, what each leg of a
+/* Holdamek: the six operations of a G.729 voice path, the delays of frames with their rules, the writing of lines and of voice frames, the frames of an RTP payload, G.711 legs, what each leg of a
  * conference heard, the trying of playout depths, the agreement of two decoders and the comparison with a far one, as C functions (x86-64 Linux; C99 or later, C++).
  * `rt staticlib holdamek` makes target/staticlib/libholdamek.a:  cc -Iinclude program.c target/staticlib/libholdamek.a
  * Installed (`make install`):  cc program.c $(pkg-config --cflags --libs holdamek)
@@ -14,8 +14,8 @@
  * empty G.711 leg, and for the lists of no arrivals and the kinds of no frames. The bytes of an RTP payload are never read; NULL is right for an empty one.
  *
  * What no function can notice, and the caller sees to: a pointer with a right length that isn't 0 isn't NULL and points to that much memory of its type;
- * `kind`, `frames`, `lost`, `length`, `agreement`, `what`, `number` and `rest` are never NULL; and what is lent for writing overlaps nothing else that is lent in the
- * same call. */
+ * `kind`, `lost`, `length`, `agreement`, `what`, `number`, `rest` and `carried` are never NULL; `delays`, `rules` and `counts`, which come without a length, are never NULL and
+ * point to as many numbers as stand in brackets; and what is lent for writing overlaps nothing else that is lent in the same call. */
 #ifndef HOLDAMEK_H
 #define HOLDAMEK_H
 
@@ -23,9 +23,9 @@
 #include <stdint.h>
 
 /* The version of header and library; the shared library has the first number in its name. */
-#define HOLDAMEK_VERSION "0.9.0"
+#define HOLDAMEK_VERSION "0.10.0"
 #define HOLDAMEK_VERSION_MAJOR 0
-#define HOLDAMEK_VERSION_MINOR 9
+#define HOLDAMEK_VERSION_MINOR 10
 #define HOLDAMEK_VERSION_PATCH 0
 
 #ifdef __cplusplus
@@ -43,7 +43,11 @@ enum holdamek_size {
     HOLDAMEK_FIELDS_WITHOUT_P0 = 14,  /* fields that are written with P0 supplied */
     HOLDAMEK_SHORTEST_LINE = 14,      /* characters of the shortest line, without its line feed */
     HOLDAMEK_LONGEST_LINE = 36,       /* characters of the longest line, without its line feed */
+    HOLDAMEK_DELAYS = 4,              /* numbers of both delays of a frame: integer and fraction of the first subframe's, then of the second's */
+    HOLDAMEK_RULES = 2,               /* rules of a frame, one of each subframe */
+    HOLDAMEK_COUNTS = 7,              /* counts of a call */
     HOLDAMEK_MOST_FRAMES = 360000,    /* frames of a call at most */
+    HOLDAMEK_MOST_RULE = 720000,      /* subframes of one rule at most */
     HOLDAMEK_MOST_LEGS = 8,           /* legs of a conference at most */
     HOLDAMEK_MOST_PLAYOUT = 4096      /* frames, and arrivals, that a playout depth is tried on at most */
 };
@@ -74,6 +78,27 @@ enum holdamek_field {
     HOLDAMEK_S2 = 12,                 /* 4 bits */
     HOLDAMEK_GA2 = 13,                /* 3 bits */
     HOLDAMEK_GB2 = 14                 /* 4 bits */
+};
+
+/* How the delay of a subframe was found. With the fields of the frame the rule tells the delay, given the one that is carried into the subframe or, for rule 3, the first
+ * subframe's. P1 and P2 are the fields HOLDAMEK_P1 and HOLDAMEK_P2. A second subframe after bad parity has rule 3 too: its delay is relative to the carried one. */
+enum holdamek_rule {
+    HOLDAMEK_RULE_THIRDS = 1,         /* coded in thirds of a sample: first subframe, P1 below 197 */
+    HOLDAMEK_RULE_WHOLE = 2,          /* coded whole: first subframe, P1 197 or more */
+    HOLDAMEK_RULE_RELATIVE = 3,       /* coded relative to the first, by P2: second subframe of every voice frame */
+    HOLDAMEK_RULE_BAD_PARITY = 4,     /* carried after bad parity: first subframe, whatever P1 is */
+    HOLDAMEK_RULE_CONCEALED = 5       /* carried in concealment: both subframes of kinds 1 to 3. The second's is one more than the first's, at most 143 */
+};
+
+/* The places of a call's counts. The counter of a rule stands at 1 + its number. */
+enum holdamek_count_place {
+    HOLDAMEK_COUNT_FRAMES = 0,        /* frames */
+    HOLDAMEK_COUNT_LOST = 1,          /* those of kinds 1 to 3 */
+    HOLDAMEK_COUNT_THIRDS = 2,        /* subframes of rule 1, then of the others */
+    HOLDAMEK_COUNT_WHOLE = 3,
+    HOLDAMEK_COUNT_RELATIVE = 4,
+    HOLDAMEK_COUNT_BAD_PARITY = 5,
+    HOLDAMEK_COUNT_CONCEALED = 6
 };
 
 /* The laws of G.711, by which a byte is read as a sample. s is the top bit, e the next three and m the low four of the byte with the bits of 55 hexadecimal
@@ -107,13 +132,13 @@ enum holdamek_refusal {
     HOLDAMEK_TABLE_LENGTH = 1,        /* the table block isn't 1,880 words */
     HOLDAMEK_TABLE_DELAY = 2,         /* the initial delay in the table block is outside 19..144 */
     HOLDAMEK_STATE_LENGTH = 3,        /* the state block isn't 234 words; the memory of a comparison: not 2,203 */
-    HOLDAMEK_STATE_VALUES = 4,        /* in the state block, or in the memory of a comparison, the predictor isn't 0 or 1, or the delay is outside 19..144 */
+    HOLDAMEK_STATE_VALUES = 4,        /* in the state block, or in the memory of a comparison, the predictor isn't 0 or 1, or the delay is outside 19..144; for delays alone: the carried one is */
     HOLDAMEK_KIND_ABOVE_3 = 5,        /* there is no such kind of frame */
     HOLDAMEK_PAYLOAD_LENGTH = 6,      /* the payload isn't 10, 2, 0, 0 bytes for kinds 0 to 3; for fields and their writing: not ten bytes */
     HOLDAMEK_OUTPUT_LENGTH = 7,       /* the output isn't 80 words, or there aren't 80 far samples; for the writing of a line: not 36 bytes; for G.711: not as many bytes as samples; for what legs heard: not as many samples as the legs have; for a playout depth: not as many times as numbers, or not as many kinds as frames */
     HOLDAMEK_RECEIVER_LENGTH = 8,     /* the receiver of fields isn't 15 numbers; for the writing of fields: there are not 15, or not 14 without P0 */
     HOLDAMEK_LINE_FORM = 9,           /* the line isn't one of the four forms */
-    HOLDAMEK_COUNT_LIMIT = 10,        /* a count is 360,000 or more already */
+    HOLDAMEK_COUNT_LIMIT = 10,        /* the frames or the lost ones are 360,000 or more already, or the subframes of a rule 720,000 */
     HOLDAMEK_LINE_ROOM = 11,          /* the room for a line's payload isn't ten bytes */
     HOLDAMEK_PAYLOAD_REMAINDER = 12,  /* the length of the RTP payload leaves a remainder other than 0 or 2 by ten */
     HOLDAMEK_FRAME_INDEX = 13,        /* the index isn't below the number of frames of the RTP payload */
@@ -122,7 +147,8 @@ enum holdamek_refusal {
     HOLDAMEK_NO_TABLE_VALUE = 17,     /* a sample isn't a table value of the law: no byte is read as it */
     HOLDAMEK_LEGS_LENGTH = 19,        /* the legs of a conference aren't 80, 160, .. or 640 samples, a frame of each of 1 to 8 legs */
     HOLDAMEK_PLAYOUT_LIMIT = 20,      /* there are more than 4,096 frames, or more than 4,096 arrivals */
-    HOLDAMEK_ARRIVAL_NUMBER = 21      /* an arrival's number isn't below the number of frames */
+    HOLDAMEK_ARRIVAL_NUMBER = 21,     /* an arrival's number isn't below the number of frames */
+    HOLDAMEK_NO_RULE = 24             /* the number of a rule isn't 1 to 5 */
 };
 
 /* How many frames an RTP payload has. */
@@ -146,10 +172,16 @@ uint32_t holdamek_table_check(const int16_t *tables, size_t tables_length);
 /* Writes the state of a decoder before its first frame, all 234 words. Refusals 1, 2, 3. */
 uint32_t holdamek_fresh_state(const int16_t *tables, size_t tables_length, int16_t *state, size_t state_length);
 
-/* Decodes one frame: writes its 80 samples before the postfilter, and the state for the next frame. To save a job keep the 234 words;
- * to resume it lend them to the next call. Refusals 1 to 7. */
+/* Decodes one frame: writes its 80 samples before the postfilter, and the state for the next frame. Writes to `delays` the delays that its two subframes used, integer and
+ * fraction in thirds (-1, 0 or 1) of the first, then of the second, and to `rules` how each was found, one of enum holdamek_rule. 3 delays[0] + delays[1] is the first in
+ * thirds of a sample. To save a job keep the 234 words; to resume it lend them to the next call. Refusals 1 to 7. */
 uint32_t holdamek_frame(const int16_t *tables, size_t tables_length, int16_t *state, size_t state_length, uint32_t kind,
-                        const uint8_t *payload, size_t payload_length, int16_t *samples, size_t samples_length);
+                        const uint8_t *payload, size_t payload_length, int16_t *samples, size_t samples_length, int16_t delays[4],
+                        uint32_t rules[2]);
+
+/* The delays and rules of one frame without its samples, as holdamek_frame writes them, and without tables: of the state only the delay is needed that is carried into the
+ * frame, word 61 of the state block, which becomes the one that is carried on. Before the first frame it is word 1867 of the table block. Refusals 4, 5, 6. */
+uint32_t holdamek_delays(int16_t *carried, uint32_t kind, const uint8_t *payload, size_t payload_length, int16_t delays[4], uint32_t rules[2]);
 
 /* The fifteen fields of a voice frame, in the order of enum holdamek_field. Refusals 6, 8. */
 uint32_t holdamek_fields(const uint8_t *bytes, size_t bytes_length, uint16_t *fields, size_t fields_length);
@@ -198,8 +230,10 @@ uint32_t holdamek_mix(const int16_t *legs, size_t legs_length, int16_t *heard, s
 uint32_t holdamek_playout(uint32_t frames, uint32_t start, uint32_t depth, const uint32_t *numbers, size_t numbers_length, const uint32_t *times,
                           size_t times_length, uint32_t *kinds, size_t kinds_length, uint32_t *lost);
 
-/* Counts a frame: adds 1 to `frames`, and for kinds 1 to 3 to `lost`. Refusals 5, 10. */
-uint32_t holdamek_count(uint32_t kind, uint32_t *frames, uint32_t *lost);
+/* Counts a frame by its kind and the rules of its two subframes: adds 1 to the frames, for kinds 1 to 3 to the lost ones, and for each of the two rules to its counter, 2 where
+ * they are equal. enum holdamek_count_place has the order of the counts. From counts that all began at 0, the five of the rules add up to twice the frames. A kind and rules
+ * that don't go together are counted too. Refusals 5, 24, 10; for 10 all seven counts are looked at, whichever would grow. */
+uint32_t holdamek_count(uint32_t kind, uint32_t first, uint32_t second, uint32_t counts[7]);
 
 /* Writes to `agreement` how far two decoders with these state blocks agree from here on, one of enum holdamek_agreement. The blocks may be the
  * same memory. Refusals 3, 4, of either block; 4 only where both have 234 words. */

@@ -24,20 +24,54 @@ static int16_t tables[HOLDAMEK_TABLE_WORDS + 1], state[HOLDAMEK_STATE_WORDS + 1]
 static int16_t state_before[HOLDAMEK_STATE_WORDS + 1], samples_before[HOLDAMEK_FRAME_SAMPLES + 1];
 static const uint8_t voice[HOLDAMEK_PAYLOAD_BYTES + 1] = {0x3e, 0xa0, 0x1d, 0x77, 0x10, 0xdf, 0x31, 0x07, 0x79, 0x94, 0};
 
+/* What a frame hands up, with a mark before each list and one behind. */
+static struct report {
+    int16_t delays[1 + HOLDAMEK_DELAYS + 1];
+    uint32_t rules[1 + HOLDAMEK_RULES + 1];
+} report, report_before;
+
+/* Marks all of it. The mark is no delay, and no rule's number. */
+static void mark_report(void)
+{
+    size_t n;
+
+    for (n = 0; n < sizeof report.delays / sizeof *report.delays; n++)
+        report.delays[n] = MARK;
+    for (n = 0; n < sizeof report.rules / sizeof *report.rules; n++)
+        report.rules[n] = MARK;
+}
+
+/* Whether the marks beside the lists are as they were. */
+static int marked_report(void)
+{
+    return report.delays[0] == MARK && report.delays[1 + HOLDAMEK_DELAYS] == MARK && report.rules[0] == MARK && report.rules[1 + HOLDAMEK_RULES] == MARK;
+}
+
+static int same_report(void)
+{
+    return memcmp(report.delays, report_before.delays, sizeof report.delays) == 0 && memcmp(report.rules, report_before.rules, sizeof report.rules) == 0;
+}
+
+static uint32_t frame_of(size_t t, size_t s, uint32_t kind, const uint8_t *payload, size_t p, int16_t *out, size_t o)
+{
+    return holdamek_frame(tables, t, state, s, kind, payload, p, out, o, report.delays + 1, report.rules + 1);
+}
+
 static uint32_t frame(size_t t, size_t s, uint32_t kind, size_t p, size_t o)
 {
-    return holdamek_frame(tables, t, state, s, kind, voice, p, samples, o);
+    return frame_of(t, s, kind, voice, p, samples, o);
 }
 
 static void keep(void)
 {
     memcpy(state_before, state, sizeof state);
     memcpy(samples_before, samples, sizeof samples);
+    report_before = report;
 }
 
 static int kept(void)
 {
-    return memcmp(state_before, state, sizeof state) == 0 && memcmp(samples_before, samples, sizeof samples) == 0;
+    return memcmp(state_before, state, sizeof state) == 0 && memcmp(samples_before, samples, sizeof samples) == 0 && same_report();
 }
 
 static void of_tables(void)
@@ -105,8 +139,8 @@ static void of_frame_lengths(void)
             if (n != o)
                 check(frame(t, s, kind, payload_length[kind], n) == HOLDAMEK_OUTPUT_LENGTH, "another output length is refused");
     }
-    CHECK(holdamek_frame(tables, t, state, s, 0, NULL, 0, samples, o) == HOLDAMEK_PAYLOAD_LENGTH);
-    CHECK(holdamek_frame(tables, t, state, s, 3, NULL, 0, NULL, 0) == HOLDAMEK_OUTPUT_LENGTH);
+    CHECK(frame_of(t, s, 0, NULL, 0, samples, o) == HOLDAMEK_PAYLOAD_LENGTH);
+    CHECK(frame_of(t, s, 3, NULL, 0, NULL, 0) == HOLDAMEK_OUTPUT_LENGTH);
     CHECK(kept());
 }
 
@@ -125,9 +159,63 @@ static void of_frame_states(void)
     CHECK(frame(t, s, 0, 10, o) == HOLDAMEK_STATE_VALUES);
     state[DELAY] = 145;
     CHECK(frame(t, s, 0, 10, o) == HOLDAMEK_STATE_VALUES);
+    CHECK(same_report());
 }
 
-/* A frame of each kind writes its state and its samples, and nothing behind them. */
+/* What a frame hands up, and the delay that it carries on. */
+struct found {
+    int16_t delays[HOLDAMEK_DELAYS], carried;
+    uint32_t rules[HOLDAMEK_RULES];
+};
+
+/* The delay that is carried behind a concealed subframe. */
+static int16_t grown(int16_t delay)
+{
+    return (int16_t)(delay < 143 ? delay + 1 : 143);
+}
+
+/* Of a voice frame, from the bits of P1, P0 and P2 (G.729 clauses 3.7.2, 4.1.2 and 4.1.3). */
+static struct found find_voice(int16_t carried, const uint8_t *payload)
+{
+    const int p1 = (payload[2] & 63) << 2 | payload[3] >> 6, p0 = payload[3] >> 5 & 1, p2 = payload[6] & 31;
+    struct found f = {{0, 0, 0, 0}, 0, {HOLDAMEK_RULE_BAD_PARITY, HOLDAMEK_RULE_RELATIVE}};
+    int bit, ones = 1, thirds = 3 * carried, least;
+
+    for (bit = 2; bit < 8; bit++)
+        ones += p1 >> bit & 1;
+    if (ones % 2 == p0) {
+        f.rules[0] = p1 < 197 ? HOLDAMEK_RULE_THIRDS : HOLDAMEK_RULE_WHOLE;
+        thirds = p1 < 197 ? p1 + 58 : 3 * (p1 - 112);
+    }
+    f.delays[0] = (int16_t)((thirds + 1) / 3);
+    f.delays[1] = (int16_t)(thirds - 3 * f.delays[0]);
+    least = f.delays[0] - 5 < 20 ? 20 : f.delays[0] - 5 > 134 ? 134 : f.delays[0] - 5;
+    thirds = 3 * least + p2 - 2;
+    f.delays[2] = f.carried = (int16_t)((thirds + 1) / 3);
+    f.delays[3] = (int16_t)(thirds - 3 * f.delays[2]);
+    return f;
+}
+
+/* Of a frame of any kind; one that is concealed has the carried delay (clause 4.4.4). */
+static struct found find(int16_t carried, uint32_t kind, const uint8_t *payload)
+{
+    struct found f = {{0, 0, 0, 0}, 0, {HOLDAMEK_RULE_CONCEALED, HOLDAMEK_RULE_CONCEALED}};
+
+    if (kind == HOLDAMEK_VOICE)
+        return find_voice(carried, payload);
+    f.delays[0] = carried;
+    f.delays[2] = grown(carried);
+    f.carried = grown(f.delays[2]);
+    return f;
+}
+
+/* Whether these are the delays and the rules that were written, and nothing beside them. */
+static int handed_up(struct found f)
+{
+    return memcmp(report.delays + 1, f.delays, sizeof f.delays) == 0 && memcmp(report.rules + 1, f.rules, sizeof f.rules) == 0 && marked_report();
+}
+
+/* A frame of each kind writes its state, its samples, its delays and their rules, and nothing beside them. */
 static void of_frame(void)
 {
     const size_t t = HOLDAMEK_TABLE_WORDS, s = HOLDAMEK_STATE_WORDS, o = HOLDAMEK_FRAME_SAMPLES;
@@ -135,11 +223,116 @@ static void of_frame(void)
 
     for (kind = 0; kind < 4; kind++) {
         state[DELAY] = 144;
+        mark_report();
         keep();
         CHECK(frame(t, s, kind, payload_length[kind], o) == HOLDAMEK_OK);
         CHECK(memcmp(state, state_before, sizeof state) != 0);
+        CHECK(handed_up(find(144, kind, voice)) && state[DELAY] == find(144, kind, voice).carried);
     }
-    CHECK(holdamek_frame(tables, t, state, s, 2, NULL, 0, samples, o) == HOLDAMEK_OK);
+    CHECK(frame_of(t, s, 2, NULL, 0, samples, o) == HOLDAMEK_OK);
+    CHECK(state[HOLDAMEK_STATE_WORDS] == MARK && samples[HOLDAMEK_FRAME_SAMPLES] == MARK);
+}
+
+static uint32_t delays_of(int16_t *carried, uint32_t kind, const uint8_t *payload, size_t p)
+{
+    return holdamek_delays(carried, kind, payload, p, report.delays + 1, report.rules + 1);
+}
+
+/* Every delay that can't be carried, before a wrong kind and a wrong payload; then these, in their order. Nothing is written. */
+static void of_delays_refusals(void)
+{
+    int16_t carried[3] = {MARK, 0, MARK};
+    uint32_t kind;
+    size_t n;
+    int delay;
+
+    mark_report();
+    keep();
+    for (delay = -32768; delay < 32768; delay++) {
+        uint32_t due = delay < 19 || delay > 144 ? HOLDAMEK_STATE_VALUES : HOLDAMEK_KIND_ABOVE_3;
+        carried[1] = (int16_t)delay;
+        check(delays_of(carried + 1, 4, NULL, 3) == due && delays_of(carried + 1, 0xffffffffu, NULL, (size_t)-1) == due && carried[1] == delay,
+              "a carried delay outside 19 to 144 is refused, then the kind");
+        if (due == HOLDAMEK_STATE_VALUES)
+            check(delays_of(carried + 1, 0, voice, 10) == due && delays_of(carried + 1, 3, NULL, 0) == due && carried[1] == delay,
+                  "a carried delay outside 19 to 144 is refused");
+    }
+    carried[1] = 60;
+    for (kind = 0; kind < 4; kind++)
+        for (n = 0; n < 300; n++)
+            if (n != payload_length[kind])
+                check(delays_of(carried + 1, kind, NULL, n) == HOLDAMEK_PAYLOAD_LENGTH, "delays of another payload length are refused unread");
+    for (kind = 4; kind != 0; kind *= 2)
+        check(delays_of(carried + 1, kind, voice, 10) == HOLDAMEK_KIND_ABOVE_3, "delays of another kind are refused");
+    CHECK(delays_of(carried + 1, 0, voice, (size_t)-1) == HOLDAMEK_PAYLOAD_LENGTH && delays_of(carried + 1, 3, NULL, (size_t)-1) == HOLDAMEK_PAYLOAD_LENGTH);
+    CHECK(kept() && carried[0] == MARK && carried[1] == 60 && carried[2] == MARK);
+}
+
+/* Whether a frame has the delays and rules of the reading above, and carries on what that tells. */
+static int finds(int16_t carried, uint32_t kind, const uint8_t *payload)
+{
+    struct found f = find(carried, kind, payload);
+    int16_t room[3] = {MARK, carried, MARK};
+
+    mark_report();
+    return delays_of(room + 1, kind, payload, payload_length[kind]) == HOLDAMEK_OK && handed_up(f) && room[0] == MARK && room[1] == f.carried && room[2] == MARK;
+}
+
+/* Every P1, P0 and P2, with all other bits 0 and 1; and every delay that can be carried, through a frame of each kind. */
+static void of_delays(void)
+{
+    static const int16_t some[] = {19, 24, 25, 26, 60, 139, 140, 143, 144};
+    uint8_t payload[HOLDAMEK_PAYLOAD_BYTES];
+    uint32_t bits, kind;
+    size_t n;
+    int16_t delay;
+
+    for (bits = 0; bits < 1u << 15; bits++)
+        for (n = 0; n < sizeof some / sizeof *some; n++) {
+            memset(payload, bits >> 14 == 0 ? 0 : 0xff, sizeof payload);
+            payload[2] = (uint8_t)((payload[2] & 0xc0) | (bits >> 8 & 63));
+            payload[3] = (uint8_t)((payload[3] & 0x1f) | (bits >> 6 & 3) << 6 | (bits >> 5 & 1) << 5);
+            payload[6] = (uint8_t)((payload[6] & 0xe0) | (bits & 31));
+            check(finds(some[n], HOLDAMEK_VOICE, payload), "delays and rules of every P1, P0 and P2");
+        }
+    for (delay = 19; delay <= 144; delay++)
+        for (kind = 0; kind < 4; kind++)
+            check(finds(delay, kind, voice), "delays and rules by every carried delay");
+    CHECK(finds(60, HOLDAMEK_NO_TRANSMISSION, NULL) && finds(60, HOLDAMEK_ERASED, NULL));
+}
+
+/* Numbers that seem random, below a limit. */
+static uint32_t below(uint32_t limit)
+{
+    static uint64_t seed = 1;
+
+    seed = seed * 6364136223846793005u + 1;
+    return (uint32_t)(seed >> 33) % limit;
+}
+
+/* Random frames: the delays without samples are those of the frame call, and the delay that is carried is the state's. */
+static void of_delays_and_frames(void)
+{
+    uint8_t payload[HOLDAMEK_PAYLOAD_BYTES];
+    int16_t carried;
+    uint32_t turn, kind;
+    size_t n;
+
+    CHECK(holdamek_fresh_state(tables, HOLDAMEK_TABLE_WORDS, state, HOLDAMEK_STATE_WORDS) == HOLDAMEK_OK);
+    carried = state[DELAY];
+    CHECK(carried == tables[DELAY_OF_TABLES]);
+    for (turn = 0; turn < 5000; turn++) {
+        kind = below(7) < 4 ? 0 : below(4);
+        for (n = 0; n < sizeof payload; n++)
+            payload[n] = (uint8_t)below(256);
+        mark_report();
+        check(delays_of(&carried, kind, payload, payload_length[kind]) == HOLDAMEK_OK, "delays of random frames");
+        report_before = report;
+        mark_report();
+        check(frame_of(HOLDAMEK_TABLE_WORDS, HOLDAMEK_STATE_WORDS, kind, payload, payload_length[kind], samples, HOLDAMEK_FRAME_SAMPLES) == HOLDAMEK_OK &&
+                  same_report() && state[DELAY] == carried,
+              "delays without samples are those of the frame call");
+    }
     CHECK(state[HOLDAMEK_STATE_WORDS] == MARK && samples[HOLDAMEK_FRAME_SAMPLES] == MARK);
 }
 
@@ -239,23 +432,114 @@ static void of_write_line(void)
     CHECK(holdamek_write_line(2, NULL, 0, out, HOLDAMEK_LONGEST_LINE, &length) == HOLDAMEK_OK && length == 15);
 }
 
+/* The counts of a call, with a mark before them and one behind. */
+static uint32_t counts_room[1 + HOLDAMEK_COUNTS + 1], counts_before[1 + HOLDAMEK_COUNTS + 1];
+static uint32_t *const counts = counts_room + 1;
+
+/* Each of the counts becomes this number and its place times some more; then all are kept. */
+static void set_counts(uint32_t from, uint32_t more)
+{
+    uint32_t n;
+
+    counts_room[0] = counts_room[1 + HOLDAMEK_COUNTS] = MARK;
+    for (n = 0; n < HOLDAMEK_COUNTS; n++)
+        counts[n] = from + n * more;
+    memcpy(counts_before, counts_room, sizeof counts_room);
+}
+
+/* Whether a frame is counted: its kind and its rules tell what is added, and nothing beside the counts is written. */
+static int adds_frame(uint32_t kind, uint32_t first, uint32_t second)
+{
+    memcpy(counts_before, counts_room, sizeof counts_room);
+    counts_before[1 + HOLDAMEK_COUNT_FRAMES]++;
+    counts_before[1 + HOLDAMEK_COUNT_LOST] += kind != HOLDAMEK_VOICE;
+    counts_before[1 + 1 + first]++;
+    counts_before[1 + 1 + second]++;
+    return holdamek_count(kind, first, second, counts) == HOLDAMEK_OK && memcmp(counts_room, counts_before, sizeof counts_room) == 0;
+}
+
+/* Whether a frame is refused with this number, and the counts are as they were. */
+static int leaves_counts(uint32_t kind, uint32_t first, uint32_t second, uint32_t due)
+{
+    memcpy(counts_before, counts_room, sizeof counts_room);
+    return holdamek_count(kind, first, second, counts) == due && memcmp(counts_room, counts_before, sizeof counts_room) == 0;
+}
+
+/* Numbers that are no rule's, first or second or both, with counts that have room and with full ones: behind the kind, before the limit. */
+static void of_count_numbers(void)
+{
+    static const uint32_t wrong[] = {0, 6, 7, 8, 10, 24, 255, 256, 257, 261, 65536, 65537, 65541, 0x7fffffffu, 0x80000000u, 0x80000001u, 0x80000005u, 0xffffffffu};
+    uint32_t full, kind, right;
+    size_t n, k;
+
+    for (full = 0; full < 2; full++) {
+        set_counts(full != 0 ? 720000 : 11, 3);
+        for (n = 0; n < sizeof wrong / sizeof *wrong; n++) {
+            for (right = 1; right <= 5; right++)
+                for (kind = 0; kind < 4; kind++)
+                    check(leaves_counts(kind, wrong[n], right, HOLDAMEK_NO_RULE) && leaves_counts(kind, right, wrong[n], HOLDAMEK_NO_RULE), "a number that is no rule's is refused");
+            for (k = 0; k < sizeof wrong / sizeof *wrong; k++)
+                check(leaves_counts(3, wrong[n], wrong[k], HOLDAMEK_NO_RULE) && leaves_counts(4, wrong[n], wrong[k], HOLDAMEK_KIND_ABOVE_3),
+                      "two numbers that are no rule's are refused behind the kind");
+        }
+        for (kind = 4; kind != 0; kind *= 2)
+            check(leaves_counts(kind, 1, 3, HOLDAMEK_KIND_ABOVE_3) && leaves_counts(kind, 0, 6, HOLDAMEK_KIND_ABOVE_3), "another kind is refused first");
+        CHECK(leaves_counts(0xffffffffu, 5, 5, HOLDAMEK_KIND_ABOVE_3));
+    }
+}
+
+/* Each count at its limit, at one less, and beyond, the others with room: every kind and every two rules. */
+static void of_count_limits(void)
+{
+    static const uint32_t beyond[] = {0, 1, 1000, 360000, 0x7fffffffu, 0x80000000u};
+    uint32_t kind, first, second, place;
+    size_t n;
+
+    for (kind = 0; kind < 4; kind++)
+        for (first = 1; first <= 5; first++)
+            for (second = 1; second <= 5; second++) {
+                set_counts(1000, 100);
+                check(adds_frame(kind, first, second), "a frame of any kind and rules is counted");
+                for (place = 0; place < HOLDAMEK_COUNTS; place++) {
+                    const uint32_t limit = place <= HOLDAMEK_COUNT_LOST ? HOLDAMEK_MOST_FRAMES : HOLDAMEK_MOST_RULE;
+
+                    set_counts(1000, 100);
+                    counts[place] = limit - 1;
+                    check(adds_frame(kind, first, second), "a count one below its limit");
+                    for (n = 0; n < sizeof beyond / sizeof *beyond; n++) {
+                        set_counts(1000, 100);
+                        counts[place] = limit + beyond[n];
+                        check(leaves_counts(kind, first, second, HOLDAMEK_COUNT_LIMIT), "a count at its limit is refused, whichever would grow");
+                    }
+                    counts[place] = 0xffffffffu;
+                    check(leaves_counts(kind, first, second, HOLDAMEK_COUNT_LIMIT), "the greatest count is refused");
+                }
+            }
+}
+
+/* The limits by their numbers. One rule twice goes from 719,999 to 720,001. */
 static void of_count(void)
 {
-    uint32_t kind, frames = 5, lost = 2;
+    uint32_t n, kind;
 
-    CHECK(holdamek_count(4, &frames, &lost) == HOLDAMEK_KIND_ABOVE_3 && frames == 5 && lost == 2);
-    for (kind = 0; kind < 4; kind++)
-        CHECK(holdamek_count(kind, &frames, &lost) == HOLDAMEK_OK);
-    CHECK(frames == 9 && lost == 5);
-    frames = HOLDAMEK_MOST_FRAMES - 1;
-    lost = HOLDAMEK_MOST_FRAMES - 1;
-    CHECK(holdamek_count(3, &frames, &lost) == HOLDAMEK_OK && frames == 360000 && lost == 360000);
-    CHECK(holdamek_count(0, &frames, &lost) == HOLDAMEK_COUNT_LIMIT && frames == 360000 && lost == 360000);
-    CHECK(holdamek_count(4, &frames, &lost) == HOLDAMEK_KIND_ABOVE_3);
-    frames = 0;
-    CHECK(holdamek_count(0, &frames, &lost) == HOLDAMEK_COUNT_LIMIT && frames == 0);
-    lost = 0xffffffffu;
-    CHECK(holdamek_count(1, &frames, &lost) == HOLDAMEK_COUNT_LIMIT && lost == 0xffffffffu);
+    of_count_numbers();
+    of_count_limits();
+    set_counts(0, 0);
+    counts[0] = counts[1] = 359999;
+    counts[6] = 719998;
+    CHECK(adds_frame(3, 5, 5) && counts[0] == 360000 && counts[1] == 360000 && counts[6] == 720000);
+    CHECK(leaves_counts(0, 1, 3, HOLDAMEK_COUNT_LIMIT) && leaves_counts(4, 1, 3, HOLDAMEK_KIND_ABOVE_3) && leaves_counts(0, 0, 3, HOLDAMEK_NO_RULE));
+    counts[0] = counts[1] = 0;
+    CHECK(leaves_counts(0, 1, 3, HOLDAMEK_COUNT_LIMIT));
+    counts[6] = 719999;
+    CHECK(adds_frame(3, 5, 5) && counts[6] == 720001 && counts[0] == 1 && leaves_counts(3, 5, 5, HOLDAMEK_COUNT_LIMIT));
+    set_counts(0, 0);
+    for (n = 0; n < HOLDAMEK_MOST_FRAMES; n++) {
+        kind = below(4);
+        check(adds_frame(kind, 1 + below(5), 1 + below(5)), "an hour of frames is counted");
+    }
+    CHECK(counts[0] == 360000 && counts[2] + counts[3] + counts[4] + counts[5] + counts[6] == 720000);
+    CHECK(leaves_counts(0, 1, 3, HOLDAMEK_COUNT_LIMIT));
 }
 
 static int16_t other[HOLDAMEK_STATE_WORDS + 1];
@@ -381,7 +665,7 @@ static void of_compare(void)
     for (n = PAST; n < s; n++)
         state[n] = (int16_t)(300 - n);
     for (n = 1; n <= 12; n++) {
-        CHECK(holdamek_frame(tables, HOLDAMEK_TABLE_WORDS, state, s, 0, voice, 10, far, f) == HOLDAMEK_OK);
+        CHECK(frame_of(HOLDAMEK_TABLE_WORDS, s, 0, voice, 10, far, f) == HOLDAMEK_OK);
         if (n == 10)
             far[33] = (int16_t)(far[33] + 3);
         CHECK(compare(m, 0, 10, f, f) == HOLDAMEK_OK && what == due[n]);
@@ -1304,15 +1588,6 @@ static void of_playout_orders(void)
     CHECK(tries(4, 100, 10, HOLDAMEK_MOST_PLAYOUT) && memcmp(lent.kinds + 1, due, sizeof due) == 0);
 }
 
-/* Numbers that seem random, below a limit. */
-static uint32_t below(uint32_t limit)
-{
-    static uint64_t seed = 1;
-
-    seed = seed * 6364136223846793005u + 1;
-    return (uint32_t)(seed >> 33) % limit;
-}
-
 /* Random arrivals: with times around those of playing, that are small or of 32 bits; and with a depth that grows, by which no played frame is lost. */
 static void of_playout_arrivals(void)
 {
@@ -1384,11 +1659,15 @@ int main(void)
     for (n = 0; n < HOLDAMEK_TABLE_WORDS; n++)
         tables[n] = (int16_t)(7 * n % 1000);
     tables[HOLDAMEK_TABLE_WORDS] = state[HOLDAMEK_STATE_WORDS] = samples[HOLDAMEK_FRAME_SAMPLES] = MARK;
+    mark_report();
     of_tables();
     of_fresh_state();
     of_frame_lengths();
     of_frame_states();
     of_frame();
+    of_delays_refusals();
+    of_delays();
+    of_delays_and_frames();
     of_fields();
     of_line();
     of_write_line();

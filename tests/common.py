@@ -10,7 +10,7 @@ CONFERENCE = os.path.abspath(os.environ.get("CONFERENCE", os.path.join(ROOT, "ta
 DEPTHS = os.path.abspath(os.environ.get("DEPTHS", os.path.join(ROOT, "target/bin/depths")))
 DECODE = os.path.abspath(os.environ.get("DECODE", os.path.join(ROOT, "target/bin/decode")))
 TABLES = os.path.join(ROOT, "examples/tables.g729")
-VERSION = b"holdamek 0.9.0\n"
+VERSION = b"holdamek 0.10.0\n"
 
 
 def a_line(r):
@@ -24,6 +24,19 @@ def a_line(r):
 def a_call(seed, frames):
     r = random.Random(seed)
     return "".join(a_line(r) for _ in range(frames)).encode()
+
+
+# How many subframes of a call's lines have each of the rules 1 to 5. P1 and P0 of a voice frame stand behind 18 bits; it passes parity where P0 and the six high bits of P1 have an odd number of ones
+# (ITU-T G.729 clause 3.7.2).
+def by_rule(lines):
+    found = []
+    for line in lines:
+        if not line.startswith(b"(frame (voice "):
+            found += [5, 5]
+            continue
+        p1, p0 = int(line[14:34], 16) >> 54 & 255, int(line[14:34], 16) >> 53 & 1
+        found += [4 if (bin(p1 >> 2).count("1") + p0) % 2 == 0 else 1 if p1 < 197 else 2, 3]
+    return [found.count(rule) for rule in range(1, 6)]
 
 
 # A new folder with the tables in it, which the programs read in their working folder. It goes when the test ends.

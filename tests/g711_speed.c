@@ -2,15 +2,11 @@
  * 1,000,000 samples. Every round times each way once, a different one first, in processor time on one core; medians and least times of all rounds, medians of the rounds' ratios, and ratios of the least times. */
 #define _GNU_SOURCE
 #include "g711_loops.h"
+#include "timing.h"
 #include <holdamek.h>
-#include <sched.h>
-#include <stdio.h>
-#include <stdlib.h>
-#include <string.h>
-#include <time.h>
 
 /* A round goes over MOST samples in calls of MOST, and PASSES times over SOME of them in shorter ones: these stay in the core's own cache, but are too many to be foreseen by the branch predictor. */
-enum { SOME = 64000, PASSES = 5, MOST = 1000000, WAYS = 8, ROUNDS = 101, MORE_ROUNDS = 2001 };
+enum { SOME = 64000, PASSES = 5, MOST = 1000000, WAYS = 8, ROUNDS = 101 };
 
 static uint8_t leg[MOST], written[MOST], due_bytes[MOST], byte_of[65536];
 static int16_t samples[MOST], read_samples[MOST], value_of[256];
@@ -47,14 +43,6 @@ static const struct {
 
 static double took[WAYS][MORE_ROUNDS];
 
-static double now(void)
-{
-    struct timespec t;
-
-    clock_gettime(CLOCK_THREAD_CPUTIME_ID, &t);
-    return (double)t.tv_sec * 1e9 + (double)t.tv_nsec;
-}
-
 /* Nanoseconds a sample of one way, in calls of so many samples. */
 static double timed(int way, size_t call)
 {
@@ -67,37 +55,9 @@ static double timed(int way, size_t call)
     return (now() - began) / (double)(whole * passes);
 }
 
-static int ascending(const void *a, const void *b)
-{
-    double x = *(const double *)a, y = *(const double *)b;
-
-    return (x > y) - (x < y);
-}
-
-/* The value of a rank, from 0, of so many. */
-static double ranked(const double *values, int count, int rank)
-{
-    static double sorted[MORE_ROUNDS];
-
-    memcpy(sorted, values, (size_t)count * sizeof *values);
-    qsort(sorted, (size_t)count, sizeof *sorted, ascending);
-    return sorted[rank];
-}
-
 static double least(int way, int rounds)
 {
     return ranked(took[way], rounds, 0);
-}
-
-/* The median of the rounds' ratios of two ways. */
-static double ratio(int way, int to, int rounds)
-{
-    static double ratios[MORE_ROUNDS];
-    int r;
-
-    for (r = 0; r < rounds; r++)
-        ratios[r] = took[way][r] / took[to][r];
-    return ranked(ratios, rounds, rounds / 2);
 }
 
 /* Random bytes and, by the library, their samples, the tables for the loops, and the bytes that the samples have to become. */
@@ -155,7 +115,7 @@ static int measure(size_t call, int rounds)
     printf("\n%s, %zu samples a call, %d rounds\n%-32s %8s %8s %10s %10s %12s\n", law == HOLDAMEK_A_LAW ? "A-law" : "mu-law", call, rounds, "nanoseconds a sample", "median",
            "least", "/ loop -O2", "/ loop -O3", "least / loop");
     for (way = 0; way < WAYS; way++)
-        printf("%-32s %8.3f %8.3f %10.2f %10.2f %12.2f\n", ways[way].name, ranked(took[way], rounds, rounds / 2), least(way, rounds), ratio(way, LOOP, rounds), ratio(way, LOOP_O3, rounds),
+        printf("%-32s %8.3f %8.3f %10.2f %10.2f %12.2f\n", ways[way].name, median(took[way], rounds), least(way, rounds), ratio(took[way], took[LOOP], rounds), ratio(took[way], took[LOOP_O3], rounds),
                least(way, rounds) / loop);
     return least(LIBRARY_READ, rounds) <= 1.1 * loop && least(LIBRARY_WRITE, rounds) <= 2 * loop;
 }
@@ -163,17 +123,11 @@ static int measure(size_t call, int rounds)
 int main(int argc, char **argv)
 {
     static const size_t calls[] = {80, 8000, MOST};
-    int rounds = argc > 1 ? atoi(argv[1]) : ROUNDS, kept = 1;
-    cpu_set_t core;
+    int rounds = rounds_asked(argc, argv, ROUNDS), kept = 1;
     size_t n;
 
-    if (rounds < 1 || rounds > MORE_ROUNDS) {
-        fprintf(stderr, "usage: g711_speed [ROUNDS], at most %d\n", MORE_ROUNDS);
+    if (rounds == 0)
         return 2;
-    }
-    CPU_ZERO(&core);
-    CPU_SET((size_t)sched_getcpu(), &core);
-    sched_setaffinity(0, sizeof core, &core);
     for (law = HOLDAMEK_A_LAW; law <= HOLDAMEK_MU_LAW; law++) {
         if (!make() || !alike())
             return 2;

@@ -2,15 +2,11 @@
  * once, a different one first, in processor time on one core. Medians of all rounds, and medians of the rounds' ratios. */
 #define _GNU_SOURCE
 #include "mix_loop.h"
+#include "timing.h"
 #include <holdamek.h>
-#include <sched.h>
-#include <stdio.h>
-#include <stdlib.h>
-#include <string.h>
-#include <time.h>
 
 /* A round goes PASSES times over the calls, one for each of CONFERENCES: these stay in the core's own cache, but are too many to be foreseen by the branch predictor. */
-enum { FRAME = 80, LEGS = 8, CONFERENCES = 64, PASSES = 20, WAYS = 4, ROUNDS = 301, MORE_ROUNDS = 2001 };
+enum { FRAME = 80, LEGS = 8, CONFERENCES = 64, PASSES = 20, WAYS = 4, ROUNDS = 301 };
 
 static int16_t legs[CONFERENCES][LEGS * FRAME], heard[CONFERENCES][LEGS * FRAME], due[CONFERENCES][LEGS * FRAME];
 
@@ -24,14 +20,6 @@ static const struct {
 } ways[WAYS] = {{"library", library}, {"C, -O2", loop_o2}, {"C, -O3", loop_o3}, {"copy", copy}};
 
 static double took[WAYS][MORE_ROUNDS];
-
-static double now(void)
-{
-    struct timespec t;
-
-    clock_gettime(CLOCK_THREAD_CPUTIME_ID, &t);
-    return (double)t.tv_sec * 1e9 + (double)t.tv_nsec;
-}
 
 static void all_calls(int way, size_t count)
 {
@@ -50,33 +38,6 @@ static double timed(int way, size_t count)
     for (pass = 0; pass < PASSES; pass++)
         all_calls(way, count);
     return (now() - began) / (PASSES * CONFERENCES);
-}
-
-static int ascending(const void *a, const void *b)
-{
-    double x = *(const double *)a, y = *(const double *)b;
-
-    return (x > y) - (x < y);
-}
-
-static double median(const double *values, int count)
-{
-    static double sorted[MORE_ROUNDS];
-
-    memcpy(sorted, values, (size_t)count * sizeof *values);
-    qsort(sorted, (size_t)count, sizeof *sorted, ascending);
-    return sorted[count / 2];
-}
-
-/* The median of the rounds' ratios of the library and another way. */
-static double ratio(int to, int rounds)
-{
-    static double ratios[MORE_ROUNDS];
-    int r;
-
-    for (r = 0; r < rounds; r++)
-        ratios[r] = took[LIBRARY][r] / took[to][r];
-    return median(ratios, rounds);
 }
 
 /* Random samples without so many of their 16 bits. */
@@ -131,7 +92,7 @@ static void measure(size_t count, size_t limits, int rounds)
     printf("| %zu | %.0f %% |", count, 100.0 * (double)limits / (samples * CONFERENCES));
     for (way = 0; way < WAYS; way++)
         printf(" %.3f |", median(took[way], rounds) / samples);
-    printf(" %.2f | %.2f | %.2f | %.2f | %.0f |\n", ratio(LOOP_O2, rounds), ratio(LOOP_O3, rounds), ratio(COPY, rounds), 1e3 / call, 1e9 / call / 100);
+    printf(" %.2f | %.2f | %.2f | %.2f | %.0f |\n", ratio(took[LIBRARY], took[LOOP_O2], rounds), ratio(took[LIBRARY], took[LOOP_O3], rounds), ratio(took[LIBRARY], took[COPY], rounds), 1e3 / call, 1e9 / call / 100);
 }
 
 static int table(const char *name, int quieter, int rounds)
@@ -152,15 +113,9 @@ static int table(const char *name, int quieter, int rounds)
 
 int main(int argc, char **argv)
 {
-    int rounds = argc > 1 ? atoi(argv[1]) : ROUNDS;
-    cpu_set_t core;
+    int rounds = rounds_asked(argc, argv, ROUNDS);
 
-    if (rounds < 1 || rounds > MORE_ROUNDS) {
-        fprintf(stderr, "usage: mix_speed [ROUNDS], at most %d\n", MORE_ROUNDS);
+    if (rounds == 0)
         return 2;
-    }
-    CPU_ZERO(&core);
-    CPU_SET((size_t)sched_getcpu(), &core);
-    sched_setaffinity(0, sizeof core, &core);
     return table("Quiet legs", 4, rounds) && table("Legs of full size", 0, rounds) ? 0 : 2;
 }

@@ -3,14 +3,10 @@
  * foreseen by the branch predictor. Every round times each way once, a different one first, in processor time on one core. Medians of all rounds, and medians of the rounds' ratios. */
 #define _GNU_SOURCE
 #include "playout_loops.h"
+#include "timing.h"
 #include <holdamek.h>
-#include <sched.h>
-#include <stdio.h>
-#include <stdlib.h>
-#include <string.h>
-#include <time.h>
 
-enum { LEAST = 16, MOST = 4096, TOTAL = 32768, WAYS = 7, ROUNDS = 101, MORE_ROUNDS = 2001, START = 100000, DEPTH = 60 };
+enum { LEAST = 16, MOST = 4096, TOTAL = 32768, WAYS = 7, ROUNDS = 101, START = 100000, DEPTH = 60 };
 
 static uint32_t numbers[TOTAL], times[TOTAL], kinds[TOTAL], due[TOTAL], lost[TOTAL], lost_due[TOTAL];
 
@@ -27,14 +23,6 @@ static const struct {
 
 static double took[WAYS][MORE_ROUNDS];
 volatile uint32_t seen; /* so that what is only read is read */
-
-static double now(void)
-{
-    struct timespec t;
-
-    clock_gettime(CLOCK_THREAD_CPUTIME_ID, &t);
-    return (double)t.tv_sec * 1e9 + (double)t.tv_nsec;
-}
 
 /* The first `calls` calls of a size, by one way. Gives how many are refused. */
 static uint32_t some_calls(int way, uint32_t size, uint32_t calls)
@@ -68,33 +56,6 @@ static double timed(int way, uint32_t size)
     began = now();
     some_calls(way, size, calls);
     return (now() - began) / (2.0 * size * calls);
-}
-
-static int ascending(const void *a, const void *b)
-{
-    double x = *(const double *)a, y = *(const double *)b;
-
-    return (x > y) - (x < y);
-}
-
-static double median(const double *values, int count)
-{
-    static double sorted[MORE_ROUNDS];
-
-    memcpy(sorted, values, (size_t)count * sizeof *values);
-    qsort(sorted, (size_t)count, sizeof *sorted, ascending);
-    return sorted[count / 2];
-}
-
-/* The median of the rounds' ratios of the library and another way. */
-static double ratio(int to, int rounds)
-{
-    static double ratios[MORE_ROUNDS];
-    int r;
-
-    for (r = 0; r < rounds; r++)
-        ratios[r] = took[LIBRARY][r] / took[to][r];
-    return median(ratios, rounds);
 }
 
 static uint64_t seed = 1;
@@ -166,7 +127,7 @@ static void measure(uint32_t size, long all_lost, int rounds)
         printf(" %.3f |", median(took[way], rounds));
     printf(" %.3f |", 2e-3 * size * median(took[LIBRARY], rounds));
     for (way = LINEAR_CC; way < WAYS; way++)
-        printf(way < DOUBLE_CC ? " %.2f |" : " %.4f |", ratio(way, rounds));
+        printf(way < DOUBLE_CC ? " %.2f |" : " %.4f |", ratio(took[LIBRARY], took[way], rounds));
     printf("\n");
     fflush(stdout);
 }
@@ -198,15 +159,9 @@ static int table(const char *name, int shuffled, int late, int rounds)
 
 int main(int argc, char **argv)
 {
-    int rounds = argc > 1 ? atoi(argv[1]) : ROUNDS;
-    cpu_set_t core;
+    int rounds = rounds_asked(argc, argv, ROUNDS);
 
-    if (rounds < 1 || rounds > MORE_ROUNDS) {
-        fprintf(stderr, "usage: playout_speed [ROUNDS], at most %d\n", MORE_ROUNDS);
+    if (rounds == 0)
         return 2;
-    }
-    CPU_ZERO(&core);
-    CPU_SET((size_t)sched_getcpu(), &core);
-    sched_setaffinity(0, sizeof core, &core);
     return table("In order, all in time", 0, 0, rounds) && table("Shuffled, all in time", 1, 0, rounds) && table("In order, half of them late", 0, 1, rounds) && table("Shuffled, half of them late", 1, 1, rounds) ? 0 : 2;
 }

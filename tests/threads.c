@@ -14,14 +14,16 @@ static int16_t due[FRAMES][HOLDAMEK_FRAME_SAMPLES];
 static uint32_t next(int16_t state[HOLDAMEK_STATE_WORDS], unsigned n, int16_t samples[HOLDAMEK_FRAME_SAMPLES])
 {
     uint8_t payload[HOLDAMEK_PAYLOAD_BYTES];
+    int16_t delays[HOLDAMEK_DELAYS];
+    uint32_t rules[HOLDAMEK_RULES];
     unsigned i;
 
     for (i = 0; i < sizeof payload; i++)
         payload[i] = (uint8_t)((n * 7919 + i * 104729) >> 3);
     return n % 7 == 6 ? holdamek_frame(tables, HOLDAMEK_TABLE_WORDS, state, HOLDAMEK_STATE_WORDS, HOLDAMEK_ERASED, NULL, 0, samples,
-                                       HOLDAMEK_FRAME_SAMPLES)
+                                       HOLDAMEK_FRAME_SAMPLES, delays, rules)
                       : holdamek_frame(tables, HOLDAMEK_TABLE_WORDS, state, HOLDAMEK_STATE_WORDS, HOLDAMEK_VOICE, payload,
-                                       sizeof payload, samples, HOLDAMEK_FRAME_SAMPLES);
+                                       sizeof payload, samples, HOLDAMEK_FRAME_SAMPLES, delays, rules);
 }
 
 /* Gives NULL if all samples are those due. */

@@ -21,30 +21,29 @@ static int read_line(char line[HOLDAMEK_LONGEST_LINE + 2])
 /* Decodes the call, and returns the exit status. */
 static int decode(const int16_t *tables, int16_t *state)
 {
-    int16_t samples[HOLDAMEK_FRAME_SAMPLES];
+    int16_t samples[HOLDAMEK_FRAME_SAMPLES], delays[HOLDAMEK_DELAYS];
     uint8_t payload[HOLDAMEK_PAYLOAD_BYTES];
     char line[HOLDAMEK_LONGEST_LINE + 2];
-    uint32_t frames = 0, lost = 0, kind = 0, code;
+    uint32_t counts[HOLDAMEK_COUNTS] = {0}, rules[HOLDAMEK_RULES], kind = 0, code;
     int length;
 
     while ((length = read_line(line)) != -1) {
         if (length < 0)
-            return refused(HOLDAMEK_LINE_FORM, frames + 1);
+            return refused(HOLDAMEK_LINE_FORM, counts[HOLDAMEK_COUNT_FRAMES] + 1);
         code = holdamek_line((const uint8_t *)line, (size_t)length, &kind, payload, sizeof payload);
         if (code == HOLDAMEK_OK)
-            code = holdamek_count(kind, &frames, &lost);
+            code = holdamek_frame(tables, HOLDAMEK_TABLE_WORDS, state, HOLDAMEK_STATE_WORDS, kind, payload, payload_length[kind],
+                                  samples, HOLDAMEK_FRAME_SAMPLES, delays, rules);
+        if (code == HOLDAMEK_OK)
+            code = holdamek_count(kind, rules[0], rules[1], counts);
         if (code != HOLDAMEK_OK)
-            return refused(code, frames + 1);
-        code = holdamek_frame(tables, HOLDAMEK_TABLE_WORDS, state, HOLDAMEK_STATE_WORDS, kind, payload, payload_length[kind],
-                              samples, HOLDAMEK_FRAME_SAMPLES);
-        if (code != HOLDAMEK_OK)
-            return refused(code, frames);
+            return refused(code, counts[HOLDAMEK_COUNT_FRAMES] + 1);
         if (!print_samples(samples, HOLDAMEK_FRAME_SAMPLES))
             return failed("standard output");
     }
     if (ferror(stdin))
         return failed("standard input");
-    if (printf("(total (frames %u) (lost %u))\n", (unsigned)frames, (unsigned)lost) < 0)
+    if (printf("(total (frames %u) (lost %u))\n", (unsigned)counts[HOLDAMEK_COUNT_FRAMES], (unsigned)counts[HOLDAMEK_COUNT_LOST]) < 0)
         return failed("standard output");
     return 0;
 }

@@ -59,9 +59,9 @@ static uint32_t write_payload(const struct step *step, uint8_t bytes[HOLDAMEK_PA
 /* Makes, prints and decodes the traffic, and returns the exit status. */
 static int run(const int16_t *tables, int16_t *state)
 {
-    int16_t samples[HOLDAMEK_FRAME_SAMPLES];
+    int16_t samples[HOLDAMEK_FRAME_SAMPLES], delays[HOLDAMEK_DELAYS];
     uint8_t payload[HOLDAMEK_PAYLOAD_BYTES], line[HOLDAMEK_LONGEST_LINE], received[HOLDAMEK_PAYLOAD_BYTES];
-    uint32_t n, kind = 0, code;
+    uint32_t n, kind = 0, rules[HOLDAMEK_RULES], code;
     size_t length = 0;
 
     for (n = 0; n < sizeof traffic / sizeof *traffic; n++) {
@@ -74,7 +74,7 @@ static int run(const int16_t *tables, int16_t *state)
             code = holdamek_line(line, length, &kind, received, sizeof received);
         if (code == HOLDAMEK_OK)
             code = holdamek_frame(tables, HOLDAMEK_TABLE_WORDS, state, HOLDAMEK_STATE_WORDS, kind, received, payload_length[kind], samples,
-                                  HOLDAMEK_FRAME_SAMPLES);
+                                  HOLDAMEK_FRAME_SAMPLES, delays, rules);
         if (code != HOLDAMEK_OK)
             return refused(code, n + 1);
         if (!print_frame(line, length, samples))

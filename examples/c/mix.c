@@ -32,11 +32,13 @@ static uint32_t read_tone(int16_t samples[HOLDAMEK_FRAME_SAMPLES])
 static uint32_t decode(const int16_t *tables, int16_t *state, const char *line, int16_t samples[HOLDAMEK_FRAME_SAMPLES])
 {
     uint8_t payload[HOLDAMEK_PAYLOAD_BYTES];
-    uint32_t kind = 0, code = holdamek_line((const uint8_t *)line, strlen(line), &kind, payload, sizeof payload);
+    int16_t delays[HOLDAMEK_DELAYS];
+    uint32_t rules[HOLDAMEK_RULES], kind = 0, code = holdamek_line((const uint8_t *)line, strlen(line), &kind, payload, sizeof payload);
 
     if (code != HOLDAMEK_OK)
         return code;
-    return holdamek_frame(tables, HOLDAMEK_TABLE_WORDS, state, HOLDAMEK_STATE_WORDS, kind, payload, payload_length[kind], samples, HOLDAMEK_FRAME_SAMPLES);
+    return holdamek_frame(tables, HOLDAMEK_TABLE_WORDS, state, HOLDAMEK_STATE_WORDS, kind, payload, payload_length[kind], samples, HOLDAMEK_FRAME_SAMPLES, delays,
+                          rules);
 }
 
 /* What each leg heard in a frame: the samples of all legs, one after another, are mixed. */

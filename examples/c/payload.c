@@ -25,13 +25,14 @@ static uint32_t decode(const int16_t *tables, int16_t *state, const struct paylo
 {
     struct holdamek_frame_part part = holdamek_payload_frame(payload->bytes, payload->length, index);
     const uint8_t *bytes = payload->bytes + part.start;
-    uint32_t code = part.code;
+    int16_t delays[HOLDAMEK_DELAYS];
+    uint32_t rules[HOLDAMEK_RULES], code = part.code;
 
     if (code == HOLDAMEK_OK)
         code = holdamek_write_line(part.kind, bytes, part.length, line, HOLDAMEK_LONGEST_LINE, length);
     if (code == HOLDAMEK_OK)
         code = holdamek_frame(tables, HOLDAMEK_TABLE_WORDS, state, HOLDAMEK_STATE_WORDS, part.kind, bytes, part.length, samples,
-                              HOLDAMEK_FRAME_SAMPLES);
+                              HOLDAMEK_FRAME_SAMPLES, delays, rules);
     return code;
 }
 

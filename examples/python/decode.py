@@ -10,14 +10,15 @@ from ctypes import POINTER, c_char_p, c_int16, c_size_t, c_uint8, c_uint32
 
 # Sizes, refusals and functions are those of include/holdamek.h.
 TABLE_WORDS, STATE_WORDS, FRAME_SAMPLES, PAYLOAD_BYTES, LONGEST_LINE = 1880, 234, 80, 10, 36
+DELAYS, RULES, COUNTS = 4, 2, 7
 PAYLOAD_LENGTH = (PAYLOAD_BYTES, 2, 0, 0)
 TABLE_LENGTH, LINE_FORM = 1, 9
 WORDS, BYTES, NUMBER = POINTER(c_int16), POINTER(c_uint8), POINTER(c_uint32)
 FUNCTIONS = {
     "holdamek_fresh_state": (WORDS, c_size_t, WORDS, c_size_t),
     "holdamek_line": (c_char_p, c_size_t, NUMBER, BYTES, c_size_t),
-    "holdamek_count": (c_uint32, NUMBER, NUMBER),
-    "holdamek_frame": (WORDS, c_size_t, WORDS, c_size_t, c_uint32, BYTES, c_size_t, WORDS, c_size_t),
+    "holdamek_count": (c_uint32, c_uint32, c_uint32, c_uint32 * COUNTS),
+    "holdamek_frame": (WORDS, c_size_t, WORDS, c_size_t, c_uint32, BYTES, c_size_t, WORDS, c_size_t, c_int16 * DELAYS, c_uint32 * RULES),
 }
 
 
@@ -33,7 +34,7 @@ def check(code, *_):
 
 def load(functions):
     """The shared library that `make install` installs, each function with its types: without them ctypes would cut lengths to 32 bits."""
-    library = ctypes.CDLL("libholdamek.so.0")
+    library = ctypes.CDLL("libholdamek.so.0.10")
     for name, types in functions.items():
         function = getattr(library, name)
         function.argtypes, function.restype, function.errcheck = types, c_uint32, check
@@ -56,7 +57,7 @@ def read_tables(path):
 def decode(library, path, call, out):
     """Decodes the call, and returns the exit status."""
     state, payload = (c_int16 * STATE_WORDS)(), (c_uint8 * PAYLOAD_BYTES)()
-    kind, frames, lost = c_uint32(), c_uint32(), c_uint32()
+    kind, delays, rules, counts = c_uint32(), (c_int16 * DELAYS)(), (c_uint32 * RULES)(), (c_uint32 * COUNTS)()
     samples = array.array("h", bytes(2 * FRAME_SAMPLES))
     lent = (c_int16 * FRAME_SAMPLES).from_buffer(samples)
     number = 0
@@ -67,14 +68,14 @@ def decode(library, path, call, out):
             if not line.endswith(b"\n"):
                 raise Refused(LINE_FORM)
             library.holdamek_line(line, len(line) - 1, kind, payload, PAYLOAD_BYTES)
-            library.holdamek_count(kind, frames, lost)
-            library.holdamek_frame(tables, TABLE_WORDS, state, STATE_WORDS, kind, payload, PAYLOAD_LENGTH[kind.value], lent, FRAME_SAMPLES)
+            library.holdamek_frame(tables, TABLE_WORDS, state, STATE_WORDS, kind, payload, PAYLOAD_LENGTH[kind.value], lent, FRAME_SAMPLES, delays, rules)
+            library.holdamek_count(kind, *rules, counts)
             samples.byteswap()
             out.write(b"(pcm %b)\n" % binascii.hexlify(samples))
     except Refused as refusal:
         out.write(b"(refused (code %d) (line %d))\n" % (refusal.args[0], number))
         return 1
-    out.write(b"(total (frames %d) (lost %d))\n" % (frames.value, lost.value))
+    out.write(b"(total (frames %d) (lost %d))\n" % tuple(counts[:2]))
     return 0
 
 

@@ -7,7 +7,7 @@ import sys
 from ctypes import c_int16, c_size_t, c_uint8, c_uint32
 
 sys.dont_write_bytecode = True
-from decode import BYTES, FRAME_SAMPLES, PAYLOAD_BYTES, PAYLOAD_LENGTH, STATE_WORDS, TABLE_WORDS, WORDS, Refused, load, read_tables
+from decode import BYTES, DELAYS, FRAME_SAMPLES, PAYLOAD_BYTES, PAYLOAD_LENGTH, RULES, STATE_WORDS, TABLE_WORDS, WORDS, Refused, load, read_tables
 from decode import FUNCTIONS as DECODING
 
 FUNCTIONS = {
@@ -31,9 +31,9 @@ CALLS = [
 
 def decode(library, tables, state, line, samples):
     """Decodes a line of a call to these samples."""
-    kind, payload = c_uint32(), (c_uint8 * PAYLOAD_BYTES)()
+    kind, payload, delays, rules = c_uint32(), (c_uint8 * PAYLOAD_BYTES)(), (c_int16 * DELAYS)(), (c_uint32 * RULES)()
     library.holdamek_line(line, len(line), kind, payload, PAYLOAD_BYTES)
-    library.holdamek_frame(tables, TABLE_WORDS, state, STATE_WORDS, kind, payload, PAYLOAD_LENGTH[kind.value], samples, FRAME_SAMPLES)
+    library.holdamek_frame(tables, TABLE_WORDS, state, STATE_WORDS, kind, payload, PAYLOAD_LENGTH[kind.value], samples, FRAME_SAMPLES, delays, rules)
 
 
 def hear(library, tables, states, lines):

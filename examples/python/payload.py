@@ -9,7 +9,7 @@ import sys
 from ctypes import POINTER, c_int16, c_size_t, c_uint8, c_uint32
 
 sys.dont_write_bytecode = True
-from decode import BYTES, FRAME_SAMPLES, LONGEST_LINE, STATE_WORDS, TABLE_WORDS, Refused, check, load, read_tables
+from decode import BYTES, DELAYS, FRAME_SAMPLES, LONGEST_LINE, RULES, STATE_WORDS, TABLE_WORDS, Refused, check, load, read_tables
 from decode import FUNCTIONS as DECODING
 
 # The payloads as they come off the wire, behind the headers of their packets.
@@ -67,7 +67,7 @@ def frames(library, payload):
 def run(library, path, out):
     """Takes the payloads apart, and returns the exit status."""
     state, samples = (c_int16 * STATE_WORDS)(), (c_int16 * FRAME_SAMPLES)()
-    line, length = (c_uint8 * LONGEST_LINE)(), c_size_t()
+    line, length, delays, rules = (c_uint8 * LONGEST_LINE)(), c_size_t(), (c_int16 * DELAYS)(), (c_uint32 * RULES)()
     try:
         tables = read_tables(path)
         library.holdamek_fresh_state(tables, TABLE_WORDS, state, STATE_WORDS)
@@ -83,7 +83,7 @@ def run(library, path, out):
         out.write("(payload %d (frames %d))\n" % (number, len(parts)))
         for kind, part in parts:
             library.holdamek_write_line(kind, part, len(part), line, LONGEST_LINE, length)
-            library.holdamek_frame(tables, TABLE_WORDS, state, STATE_WORDS, kind, part, len(part), samples, FRAME_SAMPLES)
+            library.holdamek_frame(tables, TABLE_WORDS, state, STATE_WORDS, kind, part, len(part), samples, FRAME_SAMPLES, delays, rules)
             out.write(bytes(line[: length.value]).decode() + "\n")
             out.write("(pcm %s)\n" % "".join("%04x" % (sample & 0xFFFF) for sample in samples))
     return 0

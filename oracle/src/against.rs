@@ -8,6 +8,7 @@ mod blocks;
 mod far;
 mod ffi;
 mod generate;
+mod library;
 mod measure;
 mod pack;
 mod proved;

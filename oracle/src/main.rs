@@ -6,6 +6,7 @@ mod delays;
 mod far;
 mod far_list;
 mod generate;
+mod library;
 mod ops;
 mod program;
 mod real;
@@ -13,6 +14,7 @@ mod replay;
 mod report;
 mod rng;
 mod rtp;
+mod rules;
 mod selftest;
 mod speech;
 mod text;
@@ -49,7 +51,9 @@ const USAGE: &str = "usage:
   g729-oracle far-list [SEED CASES FRAMES]
   g729-oracle far-answers
   g729-oracle rtp SEED
-  g729-oracle delays";
+  g729-oracle delays
+  g729-oracle rules TABLES
+  g729-oracle rules SEED FRAMES LIBRARY";
 
 /// Bytes that are read or written at once.
 const BUFFER: usize = 1 << 20;
@@ -137,6 +141,15 @@ fn dispatch(args: &[&str]) -> Outcome {
             let mut out = output();
             delays::list(&mut out).map_err(io_error)?;
             finish(out)
+        }
+        ["rules", tables] => {
+            let mut out = output();
+            rules::print(&read_tables(tables)?, &mut input(), &mut out)?;
+            finish(out)
+        }
+        ["rules", seed, frames, library] => {
+            let wrong = rules::compare(number(seed)?, number(frames)?, library)?;
+            Ok(ExitCode::from(u8::from(wrong > 0)))
         }
         _ => Err(USAGE.to_string()),
     }

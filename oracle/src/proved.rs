@@ -18,7 +18,16 @@ pub fn fresh(tables: &TableBlock) -> StateBlock {
 pub fn frame(tables: &TableBlock, state: &mut StateBlock, line: &FrameLine) -> Samples {
     let mut out = [0; FRAME_SAMPLES];
     let payload = &line.payload[..[10, 2, 0, 0][line.kind]];
-    let code = ffi::frame(tables, state, line.kind as u32, payload, &mut out);
+    let (mut delays, mut rules) = ([0; 4], [0; 2]);
+    let code = ffi::frame(
+        tables,
+        state,
+        line.kind as u32,
+        payload,
+        &mut out,
+        &mut delays,
+        &mut rules,
+    );
     assert_eq!(code, 0, "an accepted frame was refused");
     out
 }

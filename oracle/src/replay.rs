@@ -30,7 +30,7 @@ pub fn stages(out: &mut impl Write, seed: u64, cases: usize, frames: usize) -> R
 }
 
 /// The tables and the state that a case starts from.
-fn blocks_of(rng: &mut Rng, case: usize) -> Result<(TableBlock, Tables, StateBlock), String> {
+pub fn blocks_of(rng: &mut Rng, case: usize) -> Result<(TableBlock, Tables, StateBlock), String> {
     let block = tables_of(rng, case)?;
     let tables = harness::tables(&block);
     let state = state_of(rng, case, &tables)?;
@@ -51,7 +51,7 @@ fn state_of(rng: &mut Rng, case: usize, tables: &Tables) -> Result<StateBlock, S
 }
 
 /// A call of a kind and a parity drawn at random, half of them mixed.
-fn call_of(rng: &mut Rng, frames: usize) -> Result<Vec<FrameLine>, String> {
+pub fn call_of(rng: &mut Rng, frames: usize) -> Result<Vec<FrameLine>, String> {
     let kind = if rng.chance(50) {
         "mixed"
     } else {

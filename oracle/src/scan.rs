@@ -1,9 +1,9 @@
 //! Libraries of oracle/scan beside the Rust: T1 and T2 compared, then how many of them each decodes a second.
 
+use crate::library::Library;
 use crate::measure::seconds;
 use crate::rng::Rng;
 use g729::delays::{self, SCANNED, Thirds};
-use std::ffi::{CStr, CString, c_char, c_int, c_void};
 use std::hint::black_box;
 
 /// The rounds that are timed, and the blocks of `SCANNED` delays that each decodes in turn.
@@ -85,39 +85,6 @@ fn open(path: &String) -> Result<Functions, String> {
             scan_t2: std::mem::transmute(library.function(c"scan_t2")?),
         })
     }
-}
-
-unsafe extern "C" {
-    fn dlopen(path: *const c_char, flags: c_int) -> *mut c_void;
-    fn dlsym(library: *mut c_void, name: *const c_char) -> *mut c_void;
-    fn dlerror() -> *const c_char;
-}
-
-/// A shared library, which stays open.
-struct Library(*mut c_void);
-
-impl Library {
-    fn open(path: &str) -> Result<Self, String> {
-        const RTLD_NOW: c_int = 2;
-        let name = CString::new(path).map_err(|e| e.to_string())?;
-        // SAFETY: the path ends with a zero byte.
-        found(unsafe { dlopen(name.as_ptr(), RTLD_NOW) }).map(Library)
-    }
-
-    fn function(&self, name: &CStr) -> Result<*mut c_void, String> {
-        // SAFETY: the library is open, and the name ends with a zero byte.
-        found(unsafe { dlsym(self.0, name.as_ptr()) })
-    }
-}
-
-/// What was found, or why not.
-fn found(address: *mut c_void) -> Result<*mut c_void, String> {
-    if !address.is_null() {
-        return Ok(address);
-    }
-    // SAFETY: behind a call that found nothing, the text of the reason.
-    let reason = unsafe { CStr::from_ptr(dlerror()) };
-    Err(reason.to_string_lossy().into_owned())
 }
 
 // ---- what is compared

@@ -50,6 +50,7 @@ fn decode(
 /// The samples of a line with its line feed. An overlong or unfinished line has none.
 fn next(decoder: &mut Decoder, counts: &mut Counts, line: &[u8]) -> Result<Samples, Refusal> {
     let frame = Frame::parse(line.strip_suffix(b"\n").ok_or(Refusal::LineForm)?)?;
-    counts.count(&frame)?;
-    decoder.decode(&frame)
+    let (samples, report) = decoder.frame(&frame)?;
+    counts.count(&frame, report.rules)?;
+    Ok(samples)
 }

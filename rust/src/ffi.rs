@@ -36,6 +36,16 @@ mod c {
             payload_len: usize,
             out: *mut i16,
             out_len: usize,
+            delays: *mut [i16; 4],
+            rules: *mut [u32; 2],
+        ) -> u32;
+        pub fn holdamek_delays(
+            carried: *mut i16,
+            kind: u32,
+            payload: *const u8,
+            payload_len: usize,
+            delays: *mut [i16; 4],
+            rules: *mut [u32; 2],
         ) -> u32;
         pub fn holdamek_fields(bytes: *const u8, len: usize, to: *mut u16, to_len: usize) -> u32;
         pub fn holdamek_write_fields(
@@ -103,7 +113,7 @@ mod c {
             kinds_len: usize,
             lost: *mut u32,
         ) -> u32;
-        pub fn holdamek_count(kind: u32, frames: *mut u32, lost: *mut u32) -> u32;
+        pub fn holdamek_count(kind: u32, first: u32, second: u32, counts: *mut [u32; 7]) -> u32;
         pub fn holdamek_agree(
             a: *const i16,
             a_len: usize,
@@ -146,7 +156,15 @@ pub fn fresh_state(t: &[i16], b: &mut [i16]) -> u32 {
     unsafe { c::holdamek_fresh_state(t.as_ptr(), t.len(), b.as_mut_ptr(), b.len()) }
 }
 
-pub fn frame(t: &[i16], b: &mut [i16], kind: u32, payload: &[u8], out: &mut [i16]) -> u32 {
+pub fn frame(
+    t: &[i16],
+    b: &mut [i16],
+    kind: u32,
+    payload: &[u8],
+    out: &mut [i16],
+    delays: &mut [i16; 4],
+    rules: &mut [u32; 2],
+) -> u32 {
     // SAFETY: see the head of this file.
     unsafe {
         c::holdamek_frame(
@@ -159,6 +177,28 @@ pub fn frame(t: &[i16], b: &mut [i16], kind: u32, payload: &[u8], out: &mut [i16
             payload.len(),
             out.as_mut_ptr(),
             out.len(),
+            delays,
+            rules,
+        )
+    }
+}
+
+pub fn delays(
+    carried: &mut i16,
+    kind: u32,
+    payload: &[u8],
+    delays: &mut [i16; 4],
+    rules: &mut [u32; 2],
+) -> u32 {
+    // SAFETY: see the head of this file.
+    unsafe {
+        c::holdamek_delays(
+            carried,
+            kind,
+            payload.as_ptr(),
+            payload.len(),
+            delays,
+            rules,
         )
     }
 }
@@ -274,9 +314,9 @@ pub fn playout(
     }
 }
 
-pub fn count(kind: u32, frames: &mut u32, lost: &mut u32) -> u32 {
+pub fn count(kind: u32, first: u32, second: u32, counts: &mut [u32; 7]) -> u32 {
     // SAFETY: see the head of this file.
-    unsafe { c::holdamek_count(kind, frames, lost) }
+    unsafe { c::holdamek_count(kind, first, second, counts) }
 }
 
 pub fn agree(a: &[i16], b: &[i16], agreement: &mut u32) -> u32 {

@@ -1,7 +1,8 @@
 //! Holdamek for Rust: a G.729 voice path whose every function is proved, behind safe types.
 //!
 //! A [`TableBlock`] holds your licensed tables, checked. A [`Decoder`] takes one [`Frame`] after another and gives the 80
-//! samples of each before the postfilter. Its [`StateBlock`] can be saved between any two frames and resumed later, here or on
+//! samples of each before the postfilter, and if asked the [`Report`] of its delays, each with its [`Rule`]; [`delays()`] gives these without
+//! the samples. Its [`StateBlock`] can be saved between any two frames and resumed later, here or on
 //! another machine. [`Frame::parse`] reads a line of a call, [`Frame::write`] writes it, and [`Counts`] counts its frames.
 //! [`SpeechParams`] has the fields of a voice frame by name, read from its ten bytes or to be written as these. [`PayloadFrames`]
 //! takes an RTP payload apart, without copying. A [`Law`] reads the bytes of a G.711 leg as samples, and turns them back.
@@ -28,6 +29,7 @@
 mod ffi;
 
 mod comparison;
+mod delays;
 mod g711;
 mod mix;
 mod payload;
@@ -36,6 +38,7 @@ mod refusal;
 mod speech_params;
 
 pub use comparison::{Compared, Comparison, COMPARE_WORDS};
+pub use delays::{delays, Delay, Report, Rule};
 pub use g711::Law;
 pub use mix::{mix, MOST_LEGS};
 pub use payload::{payload_frame, payload_frames, PayloadFrame, PayloadFrames};
@@ -53,6 +56,8 @@ pub const FRAME_SAMPLES: usize = 80;
 pub const LONGEST_LINE: usize = 36;
 /// Frames of a call at most.
 pub const MOST_FRAMES: u32 = 360_000;
+/// Subframes of one rule at most.
+pub const MOST_RULE: u32 = 720_000;
 
 /// The samples of a frame.
 pub type Samples = [i16; FRAME_SAMPLES];
@@ -279,15 +284,68 @@ pub struct Counts {
     pub frames: u32,
     /// Those of them of kinds 1, 2 and 3.
     pub lost: u32,
+    /// Its subframes by the rule of their delay: [`Rule::Thirds`].
+    pub thirds: u32,
+    /// [`Rule::Whole`].
+    pub whole: u32,
+    /// [`Rule::Relative`].
+    pub relative: u32,
+    /// [`Rule::BadParity`].
+    pub bad_parity: u32,
+    /// [`Rule::Concealed`].
+    pub concealed: u32,
 }
 
 impl Counts {
-    /// Counts a frame.
+    /// Counts a frame by its kind and the rules of its two subframes, as [`Report`] has them. From counts that all began at 0, the five
+    /// of the rules add up to twice the frames. A kind and rules that don't go together are counted too.
     ///
     /// # Errors
     /// [`Refusal::CountLimit`].
-    pub fn count(&mut self, frame: &Frame) -> Result<(), Refusal> {
-        Refusal::check(ffi::count(frame.kind(), &mut self.frames, &mut self.lost))
+    pub fn count(&mut self, frame: &Frame, rules: [Rule; 2]) -> Result<(), Refusal> {
+        let [first, second] = rules.map(Rule::number);
+        let mut numbers = self.numbers();
+        Refusal::check(ffi::count(frame.kind(), first, second, &mut numbers))?;
+        *self = Counts::from_numbers(numbers);
+        Ok(())
+    }
+
+    /// The subframes of a rule.
+    pub fn of(&self, rule: Rule) -> u32 {
+        match rule {
+            Rule::Thirds => self.thirds,
+            Rule::Whole => self.whole,
+            Rule::Relative => self.relative,
+            Rule::BadParity => self.bad_parity,
+            Rule::Concealed => self.concealed,
+        }
+    }
+
+    /// All in their order: frames, lost, and those of rules 1 to 5.
+    pub fn numbers(&self) -> [u32; 7] {
+        [
+            self.frames,
+            self.lost,
+            self.thirds,
+            self.whole,
+            self.relative,
+            self.bad_parity,
+            self.concealed,
+        ]
+    }
+
+    /// The counts of these numbers, in that order.
+    pub fn from_numbers(numbers: [u32; 7]) -> Self {
+        let [frames, lost, thirds, whole, relative, bad_parity, concealed] = numbers;
+        Counts {
+            frames,
+            lost,
+            thirds,
+            whole,
+            relative,
+            bad_parity,
+            concealed,
+        }
     }
 }
 
@@ -320,15 +378,26 @@ impl<'t> Decoder<'t> {
     /// # Errors
     /// [`Refusal::StateValues`], where the decoder was resumed from a state that isn't accepted.
     pub fn decode(&mut self, frame: &Frame) -> Result<Samples, Refusal> {
+        self.frame(frame).map(|(samples, _)| samples)
+    }
+
+    /// The 80 samples of the next frame, and its delays with their rules.
+    ///
+    /// # Errors
+    /// As [`Decoder::decode`].
+    pub fn frame(&mut self, frame: &Frame) -> Result<(Samples, Report), Refusal> {
         let mut samples = [0; FRAME_SAMPLES];
+        let (mut delays, mut rules) = ([0; 4], [0; 2]);
         Refusal::check(ffi::frame(
             &self.tables.0,
             &mut self.state.0,
             frame.kind(),
             frame.payload(),
             &mut samples,
+            &mut delays,
+            &mut rules,
         ))?;
-        Ok(samples)
+        Ok((samples, Report::from_numbers(delays, rules)?))
     }
 
     /// The state, to be saved.

@@ -12,7 +12,8 @@ pub enum Refusal {
     TableDelay,
     /// 3: the state block isn't 234 words.
     StateLength,
-    /// 4: in the state block the predictor isn't 0 or 1, or the delay is outside 19..144.
+    /// 4: in the state block the predictor isn't 0 or 1, or the delay is outside 19..144; for [`delays`](crate::delays()), the
+    /// carried delay is.
     StateValues,
     /// 5: the kind of frame is above 3.
     Kind,
@@ -25,7 +26,7 @@ pub enum Refusal {
     ReceiverLength,
     /// 9: the line isn't one of the four forms.
     LineForm,
-    /// 10: a count is 360,000 or more.
+    /// 10: the frames or the lost ones are 360,000 or more, or the subframes of a rule 720,000.
     CountLimit,
     /// 11: the room for a line's payload isn't ten bytes.
     LineRoom,
@@ -45,12 +46,14 @@ pub enum Refusal {
     PlayoutLimit,
     /// 21: the number of an arrival isn't below the number of frames.
     ArrivalNumber,
+    /// 24: the number of a rule isn't 1 to 5. A [`Rule`](crate::Rule) is never refused with it.
+    NoRule,
     /// A number that this version of the crate doesn't know.
     Other(u32),
 }
 
-/// The refusals with their numbers, 1 to 13, 15 to 17 and 19 to 21, and their texts.
-const NUMBERED: [(u32, Refusal, &str); 19] = [
+/// The refusals with their numbers, 1 to 13, 15 to 17, 19 to 21 and 24, and their texts.
+const NUMBERED: [(u32, Refusal, &str); 20] = [
     (1, Refusal::TableLength, "the table block isn't 1,880 words"),
     (
         2,
@@ -61,7 +64,7 @@ const NUMBERED: [(u32, Refusal, &str); 19] = [
     (
         4,
         Refusal::StateValues,
-        "the predictor or the delay in the state block is out of range",
+        "the predictor or the delay in the state block, or the carried delay, is out of range",
     ),
     (5, Refusal::Kind, "there is no such kind of frame"),
     (
@@ -80,7 +83,11 @@ const NUMBERED: [(u32, Refusal, &str); 19] = [
         "the fields, or their receiver, aren't 15 numbers (14 without P0)",
     ),
     (9, Refusal::LineForm, "the line isn't one of the four forms"),
-    (10, Refusal::CountLimit, "a count is 360,000 or more"),
+    (
+        10,
+        Refusal::CountLimit,
+        "the frames or the lost ones are 360,000 or more, or the subframes of a rule 720,000",
+    ),
     (
         11,
         Refusal::LineRoom,
@@ -118,6 +125,7 @@ const NUMBERED: [(u32, Refusal, &str); 19] = [
         Refusal::ArrivalNumber,
         "the number of an arrival isn't below the number of frames",
     ),
+    (24, Refusal::NoRule, "the number of a rule isn't 1 to 5"),
 ];
 
 impl Refusal {
@@ -157,10 +165,10 @@ impl std::error::Error for Refusal {}
 #[test]
 fn every_number_comes_back() {
     assert_eq!(Refusal::check(0), Ok(()));
-    for code in (1..24).chain([u32::MAX]) {
+    for code in (1..30).chain([u32::MAX]) {
         let refusal = Refusal::check(code).unwrap_err();
         assert_eq!(refusal.code(), code);
-        let known = code <= 21 && code != 14 && code != 18;
+        let known = code == 24 || code <= 21 && code != 14 && code != 18;
         assert_eq!(matches!(refusal, Refusal::Other(_)), !known);
     }
 }

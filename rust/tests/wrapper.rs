@@ -1,12 +1,13 @@
-//! The wrapper over the example files: samples, saving and resuming, the writing of frames, the frames of RTP payloads, G.711 legs, what each leg of a conference heard, playout depths, the agreement of two decoders, the comparison with a far one, every refusal that its types leave.
+//! The wrapper over the example files: samples, saving and resuming, delays with their rules, the writing of frames, the frames of RTP payloads, G.711 legs, what each leg of a conference heard, playout depths, the agreement of two decoders, the comparison with a far one, every refusal that its types leave.
 
 use holdamek::{
-    fields, mix, payload_frame, payload_frames, playout, write_fields, write_fields_parity,
-    Agreement, Compared, Comparison, Counts, Decoder, Frame, Law, PayloadFrame, PayloadFrames,
-    Refusal, Samples, SpeechParams, StateBlock, TableBlock,
+    delays, fields, mix, payload_frame, payload_frames, playout, write_fields, write_fields_parity,
+    Agreement, Compared, Comparison, Counts, Decoder, Delay, Frame, Law, PayloadFrame,
+    PayloadFrames, Refusal, Report, Rule, Samples, SpeechParams, StateBlock, TableBlock,
 };
 use holdamek::{
-    COMPARE_WORDS, LONGEST_LINE, MOST_FRAMES, MOST_LEGS, MOST_PLAYOUT, STATE_WORDS, TABLE_WORDS,
+    COMPARE_WORDS, LONGEST_LINE, MOST_FRAMES, MOST_LEGS, MOST_PLAYOUT, MOST_RULE, STATE_WORDS,
+    TABLE_WORDS,
 };
 
 const TABLES: &[u8] = include_bytes!("../../examples/tables.g729");
@@ -36,10 +37,13 @@ fn samples_of_the_example() {
     let mut counts = Counts::default();
     let mut due = SAMPLES.lines();
     for frame in call() {
-        counts.count(&frame).unwrap();
-        let samples = decoder.decode(&frame).unwrap();
+        let (samples, report) = decoder.frame(&frame).unwrap();
+        counts.count(&frame, report.rules).unwrap();
         assert_eq!(Some(text(&samples).as_str()), due.next());
     }
+    assert_eq!(counts.numbers()[2..].iter().sum::<u32>(), 2 * counts.frames);
+    assert_eq!(counts.concealed, 2 * counts.lost);
+    assert_eq!(counts.relative, counts.frames - counts.lost);
     let total = format!("(total (frames {}) (lost {}))", counts.frames, counts.lost);
     assert_eq!(Some(total.as_str()), due.next());
 }
@@ -115,6 +119,7 @@ fn states_are_checked_at_the_frame() {
         let state = StateBlock::from_words(&words).unwrap();
         let mut decoder = Decoder::resume(&tables, state.clone());
         assert_eq!(decoder.decode(&Frame::Erased), Err(Refusal::StateValues));
+        assert_eq!(decoder.frame(&Frame::Erased), Err(Refusal::StateValues));
         assert_eq!(decoder.state(), &state);
     }
 }
@@ -936,20 +941,180 @@ fn depths_are_tried_on_arrivals_of_any_number() {
     assert!((1000..4000).contains(&lost));
 }
 
+/// A delay of so many thirds of a sample.
+fn thirds(thirds: i32) -> Delay {
+    let integer = ((thirds + 1) / 3) as i16;
+    let fraction = (thirds - 3 * i32::from(integer)) as i16;
+    Delay { integer, fraction }
+}
+
+/// What a frame hands up and carries on, by its fields.
+fn found(carried: i16, frame: &Frame) -> (Report, i16) {
+    let Frame::Voice(bytes) = frame else {
+        let grown = |delay: i16| (delay + 1).min(143);
+        let delays = [carried, grown(carried)].map(|delay| thirds(3 * i32::from(delay)));
+        let rules = [Rule::Concealed; 2];
+        return (Report { delays, rules }, grown(grown(carried)));
+    };
+    let params = SpeechParams::unpack(bytes).unwrap();
+    let (p1, p2) = (i32::from(params.p1), i32::from(params.p2));
+    let odd = (params.p1 >> 2).count_ones() % 2;
+    let (rule, first) = match u32::from(params.p0) {
+        p0 if p0 == odd => (Rule::BadParity, 3 * i32::from(carried)),
+        _ if p1 < 197 => (Rule::Thirds, p1 + 58),
+        _ => (Rule::Whole, 3 * (p1 - 112)),
+    };
+    let first = thirds(first);
+    let least = (i32::from(first.integer) - 5).clamp(20, 134);
+    let second = thirds(3 * least + p2 - 2);
+    let report = Report {
+        delays: [first, second],
+        rules: [rule, Rule::Relative],
+    };
+    (report, second.integer)
+}
+
+#[test]
+fn every_p1_p0_and_p2_has_its_delays_and_rules() {
+    for (p1, p0) in (0..256).flat_map(|p1| [(p1, 0), (p1, 1)]) {
+        for (p2, carried) in (0..32).flat_map(|p2| [19, 60, 144].map(|c| (p2, c))) {
+            let params = SpeechParams {
+                p1,
+                p0,
+                p2,
+                ..SpeechParams::default()
+            };
+            let frame = Frame::Voice(params.pack().unwrap());
+            let mut next = carried;
+            let report = delays(&mut next, &frame).unwrap();
+            assert_eq!((report, next), found(carried, &frame));
+            for delay in report.delays {
+                assert!((-1..=1).contains(&delay.fraction));
+                assert_eq!(thirds(delay.thirds()), delay);
+            }
+        }
+    }
+}
+
+#[test]
+fn carried_delays_are_used_and_grow() {
+    for frame in [Frame::Sid([1, 2]), Frame::NoTransmission, Frame::Erased] {
+        for carried in i16::MIN..=i16::MAX {
+            let mut next = carried;
+            let answer = delays(&mut next, &frame);
+            if (19..=144).contains(&carried) {
+                let (report, due) = found(carried, &frame);
+                assert_eq!((answer, next), (Ok(report), due));
+            } else {
+                assert_eq!((answer, next), (Err(Refusal::StateValues), carried));
+            }
+        }
+    }
+    let whole = |integer| Delay {
+        integer,
+        fraction: 0,
+    };
+    let mut carried = 144;
+    let report = delays(&mut carried, &Frame::Erased).unwrap();
+    assert_eq!(report.delays, [whole(144), whole(143)]);
+    assert_eq!(carried, 143);
+}
+
+#[test]
+fn frames_hand_up_the_delays_that_are_found_without_samples() {
+    let tables = tables();
+    let mut decoder = Decoder::new(&tables).unwrap();
+    let mut twin = decoder.clone();
+    let mut carried = tables.words()[1867];
+    let mut below = numbers_below();
+    let mut met = Counts::default();
+    let random = (0..3000).map(|_| match below(8) {
+        0 => Frame::Sid([below(256) as u8, below(256) as u8]),
+        1 => Frame::NoTransmission,
+        2 => Frame::Erased,
+        _ => Frame::Voice(std::array::from_fn(|_| below(256) as u8)),
+    });
+    for frame in call().into_iter().chain(random) {
+        assert_eq!(decoder.state().words()[61], carried);
+        let (due, next) = found(carried, &frame);
+        let alone = delays(&mut carried, &frame).unwrap();
+        let (samples, report) = decoder.frame(&frame).unwrap();
+        assert_eq!((alone, report, carried), (due, due, next));
+        assert_eq!(twin.decode(&frame), Ok(samples));
+        assert_eq!(twin.state(), decoder.state());
+        met.count(&frame, report.rules).unwrap();
+    }
+    assert!(Rule::ALL.iter().all(|rule| met.of(*rule) > 0));
+    assert_eq!(met.numbers()[2..].iter().sum::<u32>(), 2 * met.frames);
+}
+
+#[test]
+fn rules_have_their_numbers() {
+    assert_eq!(Rule::ALL.map(Rule::number), [1, 2, 3, 4, 5]);
+    let numbers = [10, 20, 30, 40, 50, 60, 70];
+    let counts = Counts::from_numbers(numbers);
+    assert_eq!(counts.numbers(), numbers);
+    assert_eq!((counts.frames, counts.lost), (10, 20));
+    assert_eq!(Rule::ALL.map(|rule| counts.of(rule)), [30, 40, 50, 60, 70]);
+    let named = [
+        counts.thirds,
+        counts.whole,
+        counts.relative,
+        counts.bad_parity,
+        counts.concealed,
+    ];
+    assert_eq!(named, [30, 40, 50, 60, 70]);
+}
+
+#[test]
+fn each_rule_has_its_counter() {
+    let frames = [
+        Frame::Voice([0; 10]),
+        Frame::Sid([0; 2]),
+        Frame::NoTransmission,
+        Frame::Erased,
+    ];
+    for frame in frames {
+        for (first, second) in Rule::ALL
+            .iter()
+            .flat_map(|a| Rule::ALL.iter().map(move |b| (*a, *b)))
+        {
+            let mut counts = Counts::from_numbers([10, 20, 30, 40, 50, 60, 70]);
+            let mut due = counts.numbers();
+            due[0] += 1;
+            due[1] += u32::from(frame.kind() != 0);
+            due[1 + first.number() as usize] += 1;
+            due[1 + second.number() as usize] += 1;
+            assert_eq!(counts.count(&frame, [first, second]), Ok(()));
+            assert_eq!(counts.numbers(), due);
+        }
+    }
+}
+
 #[test]
 fn a_call_has_a_limit() {
+    let rules = [Rule::Thirds, Rule::Relative];
+    for place in 0..7 {
+        let limit = if place < 2 { MOST_FRAMES } else { MOST_RULE };
+        let mut numbers = [7; 7];
+        numbers[place] = limit - 1;
+        let mut counts = Counts::from_numbers(numbers);
+        assert_eq!(counts.count(&Frame::Sid([0, 0]), rules), Ok(()));
+        for full in [limit, limit + 1, u32::MAX] {
+            numbers[place] = full;
+            let mut counts = Counts::from_numbers(numbers);
+            let refused = Err(Refusal::CountLimit);
+            assert_eq!(counts.count(&Frame::Erased, rules), refused);
+            assert_eq!(counts.numbers(), numbers);
+        }
+    }
+    // The same rule twice.
     let mut counts = Counts {
-        frames: MOST_FRAMES - 1,
-        lost: 7,
+        concealed: MOST_RULE - 1,
+        ..Counts::default()
     };
-    assert_eq!(counts.count(&Frame::Sid([0, 0])), Ok(()));
-    let full = Counts {
-        frames: MOST_FRAMES,
-        lost: 8,
-    };
-    assert_eq!(counts, full);
-    assert_eq!(counts.count(&Frame::Erased), Err(Refusal::CountLimit));
-    assert_eq!(counts, full);
+    assert_eq!(counts.count(&Frame::Erased, [Rule::Concealed; 2]), Ok(()));
+    assert_eq!(counts.numbers(), [1, 1, 0, 0, 0, 0, MOST_RULE + 1]);
 }
 
 #[test]
@@ -963,6 +1128,7 @@ fn refusals_have_their_numbers() {
     assert_eq!(Refusal::LegsLength.code(), 19);
     assert_eq!(Refusal::PlayoutLimit.code(), 20);
     assert_eq!(Refusal::ArrivalNumber.code(), 21);
+    assert_eq!(Refusal::NoRule.code(), 24);
     assert_eq!(
         Refusal::LineForm.to_string(),
         "refusal 9: the line isn't one of the four forms"

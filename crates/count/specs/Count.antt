@@ -34,7 +34,7 @@ full c =
 unfoldable pub subframes : Counts → ℕ
 subframes c = c .thirds + (c .whole + (c .relative + (c .parity + c .concealed)))
 
--- what a call's counts can be: two subframes for each frame
+-- what calls of Count lead to from nothing counted, of any kinds and rules: two subframes for each frame
 unfoldable pub fits : Counts → Bool
 fits c = leb (c .frames) most && (leb (c .lost) (c .frames) && eqb (subframes c) (2 * c .frames))
 
@@ -51,7 +51,7 @@ with-frame kind c =
       concealed = c .concealed;
     }
 
--- with a subframe of a rule in them
+-- with a subframe of a rule in them; `parity` counts those after bad parity
 unfoldable pub with-rule : Counts → Rule → Counts
 with-rule c Thirds = record { frames = c .frames; lost = c .lost; thirds = c .thirds + 1; whole = c .whole; relative = c .relative; parity = c .parity; concealed = c .concealed }
 with-rule c Whole = record { frames = c .frames; lost = c .lost; thirds = c .thirds; whole = c .whole + 1; relative = c .relative; parity = c .parity; concealed = c .concealed }
@@ -63,11 +63,11 @@ with-rule c Concealed = record { frames = c .frames; lost = c .lost; thirds = c 
 unfoldable pub with-both : ℕ → Rules → Counts → Counts
 with-both kind r c = with-rule (with-rule (with-frame kind c) (r .first)) (r .second)
 
--- 5: kind above 3. 10: a count is at its limit. A kind and rules that don't go together are counted as they are.
+-- 5: kind above 3. 10: a count is at or above its limit. A kind and rules that don't go together are counted as they are.
 unfoldable pub count : ℕ → Rules → Counts → Counted
 count kind r c = cond (known kind) (cond (full c) (Refused 10) (Done (with-both kind r c))) (Refused 5)
 
--- so many frames are counted
+-- n frames are counted
 unfoldable pub frames-are : ℕ → Counts → Bool
 frames-are n c = eqb n (c .frames)
 
@@ -76,7 +76,7 @@ frames-are n c = eqb n (c .frames)
 unfoldable pub numbers : Counts → List ℕ
 numbers c = c .frames ∷ c .lost ∷ c .thirds ∷ c .whole ∷ c .relative ∷ c .parity ∷ c .concealed ∷ []
 
--- number k of a list, in 32 bits
+-- number k of a list, the greatest of 32 bits where it has more, and 0 where the list ends before it
 abbrev number-at : List ℕ → ℕ → ℕ
 number-at l k = min (getD l k 0) 4294967295
 

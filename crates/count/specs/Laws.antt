@@ -6,12 +6,13 @@ use Prim.Native.Nat.{ℕ, zero, suc, _+_, _*_, _^_, _≤_, _<_, min}
 use native.Mathlib.Omega.{arith}
 use lib.Dec.{T, eqb, leb}
 use lib.ListN.{getD}
-use borrow.Author.Tests.{eq-eqb, eqb-true, le-leb, leb-true, leb-false}
+use borrow.Author.Tests.{eq-eqb, eqb-true, le-leb, lt-leb, leb-true, leb-false}
 use Rattle.kind.specs.Kind.{known}
 use Rattle.kind.specs.Laws.{low-known}
 use Rattle.rule.specs.declared.Rule.{Rule}
 use Rattle.rule.specs.declared.Rule.the-variants.{Thirds, Whole, Relative, BadParity, Concealed}
 use Rattle.rule.specs.declared.Rules.{Rules}
+use Rattle.rule.specs.Rule.{number}
 use Rattle.count.specs.declared.Counts.{Counts}
 use Rattle.count.specs.declared.Counted.{Counted}
 use Rattle.count.specs.declared.Counted.the-variants.{Refused, Done}
@@ -68,12 +69,12 @@ rule-few c Concealed n (a, (b, (d, (e, f)))) = (omega arith, (omega arith, (omeg
 
 -- ---- what a rule adds: one subframe, and nothing to the frames
 
-record Same (c d : Counts) : Type 0 where
+record OneSubframe (c d : Counts) : Type 0 where
   frames : d .frames ≡ c .frames
   lost : d .lost ≡ c .lost
   one : subframes d ≡ subframes c + 1
 
-rule-adds : (c : Counts) (r : Rule) → Same c (with-rule c r)
+rule-adds : (c : Counts) (r : Rule) → OneSubframe c (with-rule c r)
 unfolding subframes with-rule
 rule-adds c Thirds = record { frames = refl; lost = refl; one = omega arith }
 rule-adds c Whole = record { frames = refl; lost = refl; one = omega arith }
@@ -93,6 +94,63 @@ adds kind r c =
     let a = rule-adds (with-frame kind c) (r .first) in
     let b = rule-adds (with-rule (with-frame kind c) (r .first)) (r .second) in
     record { frames = rw (b .frames, a .frames); lost = rw (b .lost, a .lost); two = omega (arith, a .one, b .one) }
+
+-- ---- each counter grows by the subframes that have its rule
+
+unfoldable pub counter : Rule → Counts → ℕ
+counter Thirds c = c .thirds
+counter Whole c = c .whole
+counter Relative c = c .relative
+counter BadParity c = c .parity
+counter Concealed c = c .concealed
+
+-- 1 where two rules are one, else 0
+unfoldable pub one-if : Rule → Rule → ℕ
+one-if r s = cond (eqb (number r) (number s)) 1 0
+
+rule-counted : (r s : Rule) (c : Counts) → counter r (with-rule c s) ≡ counter r c + one-if r s
+unfolding counter with-rule one-if number
+rule-counted Thirds Thirds c = omega arith
+rule-counted Thirds Whole c = omega arith
+rule-counted Thirds Relative c = omega arith
+rule-counted Thirds BadParity c = omega arith
+rule-counted Thirds Concealed c = omega arith
+rule-counted Whole Thirds c = omega arith
+rule-counted Whole Whole c = omega arith
+rule-counted Whole Relative c = omega arith
+rule-counted Whole BadParity c = omega arith
+rule-counted Whole Concealed c = omega arith
+rule-counted Relative Thirds c = omega arith
+rule-counted Relative Whole c = omega arith
+rule-counted Relative Relative c = omega arith
+rule-counted Relative BadParity c = omega arith
+rule-counted Relative Concealed c = omega arith
+rule-counted BadParity Thirds c = omega arith
+rule-counted BadParity Whole c = omega arith
+rule-counted BadParity Relative c = omega arith
+rule-counted BadParity BadParity c = omega arith
+rule-counted BadParity Concealed c = omega arith
+rule-counted Concealed Thirds c = omega arith
+rule-counted Concealed Whole c = omega arith
+rule-counted Concealed Relative c = omega arith
+rule-counted Concealed BadParity c = omega arith
+rule-counted Concealed Concealed c = omega arith
+
+frame-counted : (r : Rule) (kind : ℕ) (c : Counts) → counter r (with-frame kind c) ≡ counter r c
+unfolding counter with-frame
+frame-counted Thirds kind c = refl
+frame-counted Whole kind c = refl
+frame-counted Relative kind c = refl
+frame-counted BadParity kind c = refl
+frame-counted Concealed kind c = refl
+
+pub rules-counted : (r : Rule) (kind : ℕ) (b : Rules) (c : Counts) → counter r (with-both kind b c) ≡ counter r c + (one-if r (b .first) + one-if r (b .second))
+unfolding with-both
+rules-counted r kind b c =
+    let f = frame-counted r kind c in
+    let g = rule-counted r (b .first) (with-frame kind c) in
+    let h = rule-counted r (b .second) (with-rule (with-frame kind c) (b .first)) in
+    omega (arith, f, g, h)
 
 -- ---- counts that fit
 
@@ -114,6 +172,13 @@ fitting c = by (leb (c .frames) most) (leb (c .lost) (c .frames)) (eqb (subframe
 pub fits-of : (c : Counts) → c .frames ≤ most → c .lost ≤ c .frames → subframes c ≡ 2 * c .frames → fits c ≡ true
 unfolding fits
 fits-of c f p b = rw (le-leb (c .frames) most f, le-leb (c .lost) (c .frames) p) (eq-eqb _ _ b)
+
+-- where the counts fit, no rule has more than twice the frames
+most-each : (c : Counts) → fits c ≡ true → Few c (2 * c .frames)
+unfolding subframes
+most-each c h =
+    let b : c .thirds + (c .whole + (c .relative + (c .parity + c .concealed))) ≡ 2 * c .frames = fitting c h .both in
+    (omega arith, (omega arith, (omega arith, (omega arith, omega arith))))
 
 -- two subframes for each frame
 pub fits-both : (c : Counts) → fits c ≡ true → subframes c ≡ 2 * c .frames
@@ -151,7 +216,7 @@ fits-more kind r c d f h =
     let a = adds kind r c in
     let g = lost-more (eqb kind 0) (c .lost) (c .frames) (fitting c f .part) in
     rw (e .1)
-        (fits-of (with-both kind r c) (omega (arith, a .frames, m)) (rw (a .frames, a .lost) g) (omega (arith, a .two, a .frames, fitting c f .both)))
+    (fits-of (with-both kind r c) (omega (arith, a .frames, m)) (rw (a .frames, a .lost) g) (omega (arith, a .two, a .frames, fitting c f .both)))
 
 -- a refusal has a number, and of a frame of one of the kinds it is 10
 pub refused-some : (kind n : ℕ) (r : Rules) (c : Counts) → count kind r c ≡ Refused n → 0 < n
@@ -171,7 +236,41 @@ refused-full kind n r c k = rw (low-known kind k) (by (full c))
     by true h = cc
     by false h = let z : _≡_ {A = ℕ} 0 1 = cc in absurd (omega arith)
 
--- ---- so many frames
+-- ---- which counts are full (change request 12: a rule's counter is tested against 720,000)
+
+-- a call is refused for its frames alone: where the counts fit, a frame more of any kind and rules is counted below 360,000
+pub not-full : (c : Counts) → fits c ≡ true → c .frames < most → full c ≡ false
+unfolding full
+not-full c h m =
+    let e = most-each c h in
+    let p = fitting c h .part in
+    rw (
+      lt-leb most (c .frames) m,
+      lt-leb most (c .lost) (omega arith),
+      lt-leb most-subframes (c .thirds) (omega (arith, e .0)),
+      lt-leb most-subframes (c .whole) (omega (arith, e .1 .0)),
+      lt-leb most-subframes (c .relative) (omega (arith, e .1 .1 .0)),
+      lt-leb most-subframes (c .parity) (omega (arith, e .1 .1 .1 .0)),
+      lt-leb most-subframes (c .concealed) (omega (arith, e .1 .1 .1 .1)),
+    )
+
+pub not-refused : (kind : ℕ) (r : Rules) (c : Counts) → kind ≤ 3 → fits c ≡ true → c .frames < most → count kind r c ≡ Done (with-both kind r c)
+unfolding count
+not-refused kind r c k h m = rw (low-known kind k, not-full c h m)
+
+-- 719,999 subframes of a rule are counted on, 720,000 refused, whatever the frames
+abbrev pub many : ℕ → Counts
+many n = record { frames = 1; lost = 0; thirds = n; whole = 0; relative = 0; parity = 0; concealed = 0 }
+
+pub limit-below : full (many 719999) ≡ false
+unfolding full
+limit-below = refl
+
+pub limit-reached : full (many 720000) ≡ true
+unfolding full
+limit-reached = refl
+
+-- ---- n frames
 
 pub frames-none : frames-are 0 no-counts ≡ true
 unfolding frames-are no-counts
@@ -224,13 +323,8 @@ twice xs = after xs no-counts (fitting no-counts fits-none .both)
 
 -- ---- as numbers
 
--- each is at most 720,000 where the counts fit
 small : (c : Counts) → fits c ≡ true → Few c 720000
-unfolding subframes
-small c h =
-    let f = fitting c h .few in
-    let b : c .thirds + (c .whole + (c .relative + (c .parity + c .concealed))) ≡ 2 * c .frames = fitting c h .both in
-    (omega arith, (omega arith, (omega arith, (omega arith, omega arith))))
+small c h = more-few c (2 * c .frames) 720000 (omega (arith, fitting c h .few)) (most-each c h)
 
 -- counts that fit are numbers of 32 bits, and come back from them
 pub numbers-small : (c : Counts) → fits c ≡ true → (k : ℕ) → getD (numbers c) k 0 < 2 ^ 32

@@ -16,7 +16,7 @@ pub struct Counts {
     pub frames: u32,
     // Of these, the ones of kinds 1, 2 and 3.
     pub lost: u32,
-    // Subframes by the rule of their delay, 1 to 5.
+    // Subframes by the rule of their delay, 1 to 5: `parity` those after bad parity.
     pub thirds: u32,
     pub whole: u32,
     pub relative: u32,
@@ -53,7 +53,8 @@ fn full(c: Counts) -> bool
     ensures { λ r. ⌜ r ≡ full c ⌝ }
 {
     let frames = (c.frames >= MOST) | (c.lost >= MOST);
-    let coded = (c.thirds >= MOST_SUBFRAMES) | ((c.whole >= MOST_SUBFRAMES) | (c.relative >= MOST_SUBFRAMES));
+    let coded = (c.thirds >= MOST_SUBFRAMES)
+        | ((c.whole >= MOST_SUBFRAMES) | (c.relative >= MOST_SUBFRAMES));
     let carried = (c.parity >= MOST_SUBFRAMES) | (c.concealed >= MOST_SUBFRAMES);
     frames | (coded | carried)
 }
@@ -62,10 +63,11 @@ fn full(c: Counts) -> bool
 fn subframes(c: Counts) -> u64
     ensures { λ r. ⌜ r ≡ subframes c ⌝ }
 {
-    c.thirds as u64 + (c.whole as u64 + (c.relative as u64 + (c.parity as u64 + c.concealed as u64)))
+    c.thirds as u64
+        + (c.whole as u64 + (c.relative as u64 + (c.parity as u64 + c.concealed as u64)))
 }
 
-// Whether a call can have these counts.
+// Whether calls of Count can lead to these counts.
 pub fn fits(c: Counts) -> bool
     ensures { λ r. ⌜ r ≡ fits c ⌝ }
 {
@@ -103,7 +105,7 @@ fn with_rule(c: Counts, r: Rule) -> Counts
     next
 }
 
-// The operation Count: 5 for a kind above 3, 10 where a count is at its limit; else the counts with a frame of that kind and its two subframes in them.
+// The operation Count: 5 for a kind above 3, 10 where a count is at or above its limit; else the counts with a frame of that kind and its two subframes in them.
 pub fn count(kind: u32, r: Rules, c: Counts) -> Counted
     ensures { λ s. ⌜ s ≡ count kind r c ⌝ }
 {
@@ -120,7 +122,7 @@ pub fn count(kind: u32, r: Rules, c: Counts) -> Counted
     Counted::Done(with_rule(first, b))
 }
 
-// Whether so many frames are counted.
+// Whether n frames are counted.
 pub fn frames_are(n: u32, c: Counts) -> bool
     ensures { λ r. ⌜ r ≡ frames-are n c ⌝ }
 {

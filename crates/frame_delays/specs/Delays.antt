@@ -1,4 +1,4 @@
--- The delays of a frame with their rules, from its kind, its payload and the carried delay alone (change request 12).
+-- The delays of a frame with their rules (change request 12), from its kind, its payload and the carried delay alone: a call added for those who read only delays.
 use Prim.Native.Nat.{ℕ}
 use mathlib.Core.Bool.{cond}
 use mathlib.Core.List.{List}
@@ -12,7 +12,8 @@ use Rattle.decoder.specs.Call.{first-of, input-check}
 use Rattle.frame_delays.specs.declared.Scanned.{Scanned}
 use Rattle.frame_delays.specs.declared.Scanned.the-variants.{Refused, Done}
 
--- 4: the carried delay is out of range (01: a state block's word 61). 5, 6: the kind and the payload's length, as of the frame call.
+-- 4: the carried delay is out of range (01: a state block's word 61). 5, 6: the kind and the payload's length, as of the frame call;
+-- 7 can't apply, since no samples are asked for.
 unfoldable pub refusal : ℤ → ℕ → List ℕ → ℕ
 refusal carried kind payload = first-of (cond (delay-in-range carried) 0 4) (input-check kind payload frame-length)
 

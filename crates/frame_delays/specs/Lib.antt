@@ -1,4 +1,3 @@
--- The definitions that the contracts of `frame_delays` cite, and the theorem that they are the frame call's delays.
+-- The definitions that the contracts of `frame_delays` cite, and their laws.
 pub mod Delays
 pub mod Laws
-pub mod Same

@@ -1,5 +1,5 @@
 // The delays of a frame with their rules, and no samples (change request 12): for a scan that reads only delays, from the kind, the payload and the carried delay alone. It has no
-// spectrum and no signal, and hands up what the frame call does (specs/Same.antt).
+// spectrum and no signal, and hands up what the frame call does (crate same_delays).
 ghost use mathlib.Core.Path.{_≡_};
 ghost use Rattle.frame_delays.specs.Delays.{refusal, Answer, frame-delays};
 use block::places::FRAME_LENGTH;

@@ -1,4 +1,4 @@
-// The operations of 01 for other languages, the writing of frames and lines, the frames of RTP payloads, G.711, what each leg of a conference heard, the trying of playout depths, the agreement of two decoders and the comparison with a far one: C functions over pointers and lengths, each the proved function of its crate.
+// The operations of 01 for other languages, the delays of frames with their rules, the writing of frames and lines, the frames of RTP payloads, G.711, what each leg of a conference heard, the trying of playout depths, the agreement of two decoders and the comparison with a far one: C functions over pointers and lengths, each the proved function of its crate.
 // A slice is a pointer and then a length in elements. Each returns 0 or the number of its refusal, which leaves all lent memory as it
 // was; what it answers beside its number goes to lent memory. The two for RTP payloads return a struct of both. include/holdamek.h says the same for C.
 ghost use mathlib.Core.Path.{_≡_};
@@ -13,10 +13,13 @@ ghost use Rattle.playout.specs.Playout.{playout};
 ghost use Rattle.state.specs.State as state;
 ghost use Rattle.agree.specs.Agree.{agree};
 ghost use Rattle.decoder.specs.Call.{frame};
+ghost use Rattle.frame_delays.specs.Delays.{frame-delays};
 ghost use Rattle.line.specs.Line.{line};
 ghost use Rattle.line.specs.Write.{write};
 ghost use Rattle.compare_step.specs.Compare as comparison;
-ghost use Rattle.holdamek.specs.Lent.{comparing, lend-compare, framed, lend-frame, lent, lend-line, lend-write, lend-playout, counting, count-call, agreeing, lend-agree};
+ghost use Rattle.holdamek.specs.Lent.{comparing, lend-compare, framed, lend-frame, scanned, lend-delays, lent, lend-line, lend-write, lend-playout, counting, lend-count, agreeing, lend-agree};
+
+mod lent;
 
 #[no_mangle]
 pub extern "C" fn holdamek_table_check(t: &[i16]) -> u32
@@ -118,6 +121,7 @@ pub extern "C" fn holdamek_fresh_state(t: &[i16], b: &mut [i16]) -> u32
     state::fresh_state(t, b)
 }
 
+// The samples go to `out`; the delays that both subframes used to `delays`, integer and fraction of each, and how each was found to `rules`, the numbers of change request 12.
 #[no_mangle]
 pub extern "C" fn holdamek_frame(
     t: &[i16],
@@ -125,10 +129,42 @@ pub extern "C" fn holdamek_frame(
     kind: u32,
     payload: &[u8],
     out: &mut [i16],
+    delays: &mut [i16; 4],
+    rules: &mut [u32; 2],
 ) -> u32
-    ensures { λ r. ⌜ framed r (now (b .exit)) (now (out .exit)) ≡ lend-frame (frame (now (t .entry)) (now (b .entry)) kind (now (payload .entry)) (now (out .entry))) ⌝ }
+    ensures { λ r. ⌜ framed r (now (b .exit)) (now (out .exit)) (now (delays .exit)) (now (rules .exit)) ≡ lend-frame (now (delays .entry)) (now (rules .entry)) (frame (now (t .entry)) (now (b .entry)) kind (now (payload .entry)) (now (out .entry))) ⌝ }
 {
-    decoder::code(decoder::frame(t, b, kind, payload, out))
+    let answer = decoder::frame(t, b, kind, payload, out);
+    match answer {
+        decoder::Framed::Refused(n) => n,
+        decoder::Framed::Done(r) => {
+            *delays = lent::delays_of(r);
+            *rules = lent::rules_of(r);
+            0
+        }
+    }
+}
+
+// The same delays and rules without the samples: from the delay that is carried into the frame, which becomes the one that is carried on.
+#[no_mangle]
+pub extern "C" fn holdamek_delays(
+    carried: &mut i16,
+    kind: u32,
+    payload: &[u8],
+    delays: &mut [i16; 4],
+    rules: &mut [u32; 2],
+) -> u32
+    ensures { λ r. ⌜ scanned r (now (carried .exit)) (now (delays .exit)) (now (rules .exit)) ≡ lend-delays (now (delays .entry)) (now (rules .entry)) (frame-delays (now (carried .entry)) kind (now (payload .entry))) ⌝ }
+{
+    let answer = frame_delays::frame_delays(carried, kind, payload);
+    match answer {
+        frame_delays::Scanned::Refused(n) => n,
+        frame_delays::Scanned::Done(r) => {
+            *delays = lent::delays_of(r);
+            *rules = lent::rules_of(r);
+            0
+        }
+    }
 }
 
 // The kind goes to `kind`, the payload to the front of `payload`.
@@ -166,23 +202,28 @@ pub extern "C" fn holdamek_write_line(
     }
 }
 
-// The counts of a call, its frames and those of them that are concealed, with a frame of this kind in them.
+// The counts of a call with a frame of this kind and these rules in them: its frames, those of them that are concealed, and its subframes by their rule.
 #[no_mangle]
-pub extern "C" fn holdamek_count(kind: u32, frames: &mut u32, lost: &mut u32) -> u32
-    ensures { λ r. ⌜ counting r (record { frames = now (frames .exit); lost = now (lost .exit) }) ≡ count-call kind (record { frames = now (frames .entry); lost = now (lost .entry) }) ⌝ }
+pub extern "C" fn holdamek_count(kind: u32, first: u32, second: u32, counts: &mut [u32; 7]) -> u32
+    ensures { λ r. ⌜ counting r (now (counts .exit)) ≡ lend-count kind first second (now (counts .entry)) ⌝ }
 {
+    let kind_known = kind::known(kind);
+    let rules_known = lent::rules_known(first, second);
+    if !kind_known {
+        return 5;
+    }
+    if !rules_known {
+        return 24;
+    }
     let answer = count::count(
         kind,
-        count::Counts {
-            frames: *frames,
-            lost: *lost,
-        },
+        lent::rules_of_numbers(first, second),
+        lent::counts_of(counts),
     );
     match answer {
         count::Counted::Refused(n) => n,
         count::Counted::Done(c) => {
-            *frames = c.frames;
-            *lost = c.lost;
+            *counts = lent::numbers_of(c);
             0
         }
     }

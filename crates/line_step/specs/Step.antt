@@ -56,7 +56,7 @@ unfoldable pub counted : List ℤ → Job → ℕ → List ℕ → Counted → S
 counted t job kind payload (Count.Refused code) = stop job code
 counted t job kind payload (Count.Done next) = framed job next (Frame.frame t (job .block) kind payload (replicate 80 (pos 0)))
 
--- the rules are a function of kind and payload, so that a frame is counted before it is decoded; Frame hands up the same (`frame-handed` of crate decoder)
+-- the rules are a function of kind and payload, so that a frame is counted before it is decoded; Frame hands up the same (`same-rules` of crate same_delays)
 unfoldable pub frame-step : List ℤ → Job → ℕ → List ℕ → Step
 frame-step t job kind payload = counted t job kind payload (count kind (rules (decide kind payload)) (job .progress .counts))
 

@@ -14,7 +14,7 @@ use Rattle.rule.specs.declared.Rule.{Rule}
 use Rattle.rule.specs.declared.Rule.the-variants.{Thirds, Whole, Relative, BadParity, Concealed}
 use Rattle.rule.specs.Rule.{first-rule, rules, delays}
 
--- the delay by a rule, from the fields and one number: P1 in thirds or whole, P2 from the number, or the number itself
+-- the delay by a rule, from the fields and one number: P1 in thirds or whole (clause 4.1.3, each without the test on P1), P2 relative to the number, or the number itself
 unfoldable pub of-rule : Rule → SpeechParams → ℤ → Delay
 of-rule Thirds f n =
     let p = f .p1 % 256 in

@@ -53,7 +53,7 @@ pub bad-parity : (f : SpeechParams) → parity-ok (f .p1) (f .p0) ≡ false → 
 unfolding rules first-rule
 bad-parity f e = rw e
 
--- 196 is the last in thirds, 197 the first whole: 85 both, less a third and even
+-- 196 is the last in thirds, 85 - 1/3; 197 the first whole, 85
 pub thirds-196 : (first-rule 196 0 ≡ Thirds) × (first (pos 60) 196 true .delay ≡ record { integer = pos 85; fraction = negsuc 0 })
 unfolding first-rule parity-ok steps first decode-t1
 thirds-196 = (refl, refl)
@@ -68,6 +68,10 @@ unfolding first-rule parity-ok steps
 parity-196 = refl
 
 -- ---- concealment
+
+pub concealed-rules : rules Concealment ≡ record { first = Concealed; second = Concealed }
+unfolding rules
+concealed-rules = refl
 
 -- 144 is used, 143 is carried and used in the second
 pub concealed-144 : delays Concealment (pos 144)

@@ -22,10 +22,11 @@ number Relative = 3
 number BadParity = 4
 number Concealed = 5
 
+-- the numbers that are a rule's
 abbrev pub known : ℕ → Bool
 known n = leb 1 n && leb n 5
 
--- the rule with this number; a number that is none gives the last
+-- the rule with this number; a number that is no rule's gives the last
 unfoldable pub of-number : ℕ → Rule
 of-number n = cond (eqb n 1) Thirds (cond (eqb n 2) Whole (cond (eqb n 3) Relative (cond (eqb n 4) BadParity Concealed)))
 

@@ -49,7 +49,7 @@ pub fn known(n: u32) -> bool
     (1 <= n) & (n <= 5)
 }
 
-// The rule with this number; a number that is none gives the last.
+// The rule with this number; a number that is no rule's gives the last.
 pub fn of_number(n: u32) -> Rule
     ensures { λ r. ⌜ r ≡ of-number n ⌝ }
 {

@@ -52,7 +52,7 @@ refused-with t job l ht hb =
     let f = frame-line l (replicate 10 0) bytes kind e in
     let n : length (take (payload-length kind) bytes) ≡ payload-length kind = rw length-take (omega (arith, payload-few kind, f .1)) in
     by-counted Refuses t job kind _
-    (λ n h. stop-refuses job n (rw (refused-full kind n (job .progress .counts) (f .0) h)))
+    (λ n h. stop-refuses job n (rw (refused-full kind n _ (job .progress .counts) (f .0) h)))
     (λ next h. by-framed Refuses job next _ (λ z. absurd (z (not-refused t (job .block) kind _ ht hb (f .0) n))) (λ z. done-refuses job _ next)))
 
 -- ---- the state that a line leaves

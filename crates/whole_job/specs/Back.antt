@@ -1,18 +1,19 @@
--- A job file read back: what was packed, for every state block that 01's check accepts and all numbers that a job can have; with other tables it is refused with 23. Assumes nothing.
+-- A job file read back: what was packed, for every state block that 01's check accepts and all numbers that a job can have; with other tables it is refused with 23. The counters of rules of
+-- any file that is read add up to twice its frames. Assumes nothing.
 use mathlib.Core.Path.{_≡_, refl, sym, _∙_, subst}
 use mathlib.Core.Bool.{Bool, true, false, cond, _&&_}
 use mathlib.Core.List.{List, [], _++_, append-assoc, append-nil}
 use mathlib.Core.Logic.{_≢_}
 use Prim.Native.Nat.{ℕ, _+_, _-_, _*_, _^_, _≤_, _<_}
 use native.Mathlib.Omega.{arith}
-use borrow.Author.Tests.{eq-eqb, ne-eqb, leb-true}
+use borrow.Author.Tests.{eq-eqb, ne-eqb, eqb-true, leb-true}
 use lib.Dec.{eqb, leb, T}
 use lib.IntN.{ℤ}
 use lib.Signed.{mag}
 use lib.ListN.{length, length-append}
 use lib.Seq.{take-at, drop-at, take-all}
 use Rattle.count.specs.Count as Count
-use Rattle.count.specs.Laws.{frames-few, numbers-small, numbers-back}
+use Rattle.count.specs.Laws.{frames-few, fits-both, numbers-small, numbers-back}
 use Rattle.crc32.specs.Crc32.{crc32}
 use Rattle.crc32.specs.Laws.{crc32-lt}
 use Rattle.laws.specs.Lists.{at}
@@ -77,7 +78,13 @@ count-fit : (p : Saved) → InBounds p → Words.Fit count-widths (Count.numbers
 unfolding count-widths Count.numbers
 count-fit p s =
     let m = numbers-small (p .counts) (s .counts) in
-    Words.more 4 _ (omega arith) (m 0) (Words.more 4 _ (omega arith) (m 1) Words.none)
+    Words.more 4 _ (omega arith) (m 0)
+    (Words.more 4 _ (omega arith) (m 1)
+    (Words.more 4 _ (omega arith) (m 2)
+    (Words.more 4 _ (omega arith) (m 3)
+    (Words.more 4 _ (omega arith) (m 4)
+    (Words.more 4 _ (omega arith) (m 5)
+    (Words.more 4 _ (omega arith) (m 6) Words.none))))))
 
 -- ---- a packed job
 
@@ -175,3 +182,32 @@ module _ (b : List ℤ) (p : Saved) (n : length b ≡ 234) (w : (k : ℕ) → ma
 pub other-version : (f : List ℕ) (tables : ℕ) (lent : List ℤ) → length f ≡ file-length → sum-fits f ≡ true → known f ≡ false → read f tables lent ≡ answer (Refused 25) lent
 unfolding read check
 other-version f tables lent n s k = rw (eq-eqb _ _ n, s, k)
+
+-- ---- a file that is read, whoever wrote it
+
+read-fits : (f : List ℕ) (tables : ℕ) → check f tables ≡ 0 → fits (place f) ≡ true
+unfolding check
+read-fits f tables = by (eqb (length f) file-length) (sum-fits f) (known f) (fits (place f)) refl
+  where
+    by : (x y z w : Bool) → fits (place f) ≡ w
+        → cond x (cond y (cond z (cond w (cond (eqb (place f .tables) tables) (state-check (block f)) 23) 22) 25) 22) 3 ≡ 0 → fits (place f) ≡ true
+    by true true true true e h = e
+    by true true true false e h = absurd (omega arith)
+    by true true false w e h = absurd (omega arith)
+    by true false z w e h = absurd (omega arith)
+    by false y z w e h = absurd (omega arith)
+
+read-place : (f : List ℕ) (tables : ℕ) (lent b : List ℤ) (p : Saved) → read f tables lent ≡ answer (Job p) b → (check f tables ≡ 0) × (p ≡ place f)
+unfolding read
+read-place f tables lent b p = by (eqb (check f tables) 0) refl
+  where
+    by : (x : Bool) → eqb (check f tables) 0 ≡ x → cond x (answer (Job (place f)) (block f)) (answer (Refused (check f tables)) lent) ≡ answer (Job p) b
+        → (check f tables ≡ 0) × (p ≡ place f)
+    by true e h = (eqb-true _ _ e, cc)
+    by false e h = let z : _≡_ {A = ℕ} 0 1 = cc in absurd (omega arith)
+
+-- two subframes for each frame
+pub read-both : (f : List ℕ) (tables : ℕ) (lent b : List ℤ) (p : Saved) → read f tables lent ≡ answer (Job p) b → Count.subframes (p .counts) ≡ 2 * p .counts .frames
+read-both f tables lent b p h =
+    let e = read-place f tables lent b p h in
+    fits-both (p .counts) (small p (rw (e .1) (read-fits f tables (e .0))) .counts)

@@ -32,9 +32,9 @@ CanBeSaved p = (Count.fits (p .counts) ≡ true) × (Count.frames-are (p .lines)
 
 able-more : (p q : Progress) → More p q → CanBeSaved p → (q .lines ≡ p .lines + 1) × CanBeSaved q
 able-more p q m a =
-    let f = frames-more (m .kind) (p .lines) (p .counts) (q .counts) (m .frame) (a .1) in
+    let f = frames-more (m .kind) (p .lines) (m .rules) (p .counts) (q .counts) (m .frame) (a .1) in
     let e : q .lines ≡ p .lines + 1 = m .line ∙ next-line (p .lines) (omega (arith, f .1)) in
-    (e, (fits-more (m .kind) (p .counts) (q .counts) (a .0) (m .frame), rw e (f .0)))
+    (e, (fits-more (m .kind) (m .rules) (p .counts) (q .counts) (a .0) (m .frame), rw e (f .0)))
 
 -- what is printed is at least the least for each line more, and has room
 abbrev Room : Progress → ℕ → Progress → Type 0

@@ -14,7 +14,7 @@ use lib.Signed.{mag}
 use lib.ListN.{length, take, drop, length-append, length-take, length-drop, take-append-drop}
 use lib.Seq.{take-at, take-add, take-take, drop-append-le, drop-drop}
 use Rattle.count.specs.Count as Count
-use Rattle.count.specs.Laws.{frames-few, fits-none, frames-none}
+use Rattle.count.specs.Laws.{frames-few, fits-none, fits-both, frames-none}
 use Rattle.crc32.specs.Crc32.{run, crc32, more}
 use Rattle.crc32.specs.Laws.{crc32-lt, crc32-append}
 use Rattle.line.specs.Line.{shortest, longest}
@@ -85,6 +85,10 @@ good-behind file text all b p out out′ good h e =
       made = good .made ∙ rw e;
       shown = rw e (good .shown);
     }
+
+-- however often it was cut, saved and resumed, its counters of rules add up to twice its frames
+pub good-both : (file text all : List ℕ) (b : List ℤ) (p : Saved) (out : List ℕ) → Good file text all b p out → Count.subframes (p .counts) ≡ 2 * p .counts .frames
+good-both file text all b p out good = fits-both (p .counts) (small p (good .able) .counts)
 
 -- a job that goes through a state file: with the same tables it is the job that was saved, with tables of another CRC-32 it is refused
 module _ (file text all : List ℕ) (b : List ℤ) (p : Saved) (out : List ℕ) (good : Good file text all b p out)
