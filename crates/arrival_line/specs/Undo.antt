@@ -29,7 +29,7 @@ all-last [] d e f = rw f
 all-last (b ∷ l) d e f = let p = both-hold (is-digit b) (all-digits l) e in rw (p .0) (all-last l d (p .1) f)
 
 -- all are digits, one or more
-all-decimal : (j n : ℕ) → n < j → (all-digits (decimal n) ≡ true) × (0 < length (decimal n))
+pub all-decimal : (j n : ℕ) → n < j → (all-digits (decimal n) ≡ true) × (0 < length (decimal n))
 unfolding all-digits
 all-decimal zero n h = absurd (omega arith)
 all-decimal (suc j) n h = by (ltb n 10) refl (all-decimal j (n / 10))

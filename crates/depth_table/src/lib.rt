@@ -85,7 +85,7 @@ pub fn earliest(numbers: &[u32], times: &[u32]) -> u32
 // ---- the lines. Each is at the front of lent bytes: its length is answered, and the bytes behind it are as they were.
 
 // Hundredths of a percent, rounded down. More lost frames than there are count as all.
-fn hundredths(lost: u32, frames: u32) -> u32
+pub fn hundredths(lost: u32, frames: u32) -> u32
     ensures { λ r. ⌜ r ≡ hundredths lost frames ⌝ }
 {
     if frames == 0 {
@@ -95,7 +95,7 @@ fn hundredths(lost: u32, frames: u32) -> u32
 }
 
 // The last two digits of a number.
-fn two(n: u32, from: usize, out: &mut [u8]) -> usize
+pub fn two(n: u32, from: usize, out: &mut [u8]) -> usize
     requires { ⌜ from + 2 ≤ length (now out) ⌝ }
     ensures { λ r. ⌜ Put (two n) from (now (out .entry)) r (now (out .exit)) ⌝ }
 {

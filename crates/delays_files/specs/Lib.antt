@@ -1,0 +1,2 @@
+-- What the contracts of `delays_files` cite.
+pub mod Held
