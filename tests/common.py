@@ -8,6 +8,7 @@ PAYLOADS = os.path.abspath(os.environ.get("PAYLOADS", os.path.join(ROOT, "target
 G711_LEG = os.path.abspath(os.environ.get("G711_LEG", os.path.join(ROOT, "target/bin/g711_leg")))
 CONFERENCE = os.path.abspath(os.environ.get("CONFERENCE", os.path.join(ROOT, "target/bin/conference")))
 DEPTHS = os.path.abspath(os.environ.get("DEPTHS", os.path.join(ROOT, "target/bin/depths")))
+DELAYS = os.path.abspath(os.environ.get("DELAYS", os.path.join(ROOT, "target/bin/delays")))
 DECODE = os.path.abspath(os.environ.get("DECODE", os.path.join(ROOT, "target/bin/decode")))
 TABLES = os.path.join(ROOT, "examples/tables.g729")
 VERSION = b"holdamek 0.10.0\n"
