@@ -1,0 +1,2 @@
+-- A table of delays beside the decoding of the same lines.
+pub mod Beside
