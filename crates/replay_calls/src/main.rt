@@ -116,7 +116,8 @@ fn case(t: &[i16], b: &mut [i16], text: &mut [u8]) -> bool {
     }
     let length = words::lesser(number(head, 0), text.len());
     let frames = number(head, 2);
-    let counts = count::of_numbers([frames as u64, number(head, 3) as u64]);
+    let lost = number(head, 3);
+    let counts = count::of_numbers([frames as u64, lost as u64, 0, 0, 0, 0, 0]);
     let job = Progress {
         code: 0,
         lines: (frames % 4294967296) as u32,
