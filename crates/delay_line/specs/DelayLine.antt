@@ -14,7 +14,7 @@ unfoldable pub thirds : Delay → ℕ
 thirds d = nat (pos 3 *ℤ d .integer +ℤ d .fraction)
 
 unfoldable pub heading : List ℕ
-heading = ascii "# delays in thirds of a sample, each with its rule: 1 coded in thirds, 2 coded whole, 3 coded relative to the first, 4 carried after bad parity, 5 carried in concealment\n# frame delay rule delay rule\n"
+heading = ascii "# delays in thirds of a sample, each with its rule: 1 coded in thirds, 2 coded whole, 3 coded relative to the first, 4 carried after bad parity, 5 carried in concealment\n# frame delay1 rule1 delay2 rule2\n"
 
 -- a frame's number, and for each of its subframes the delay in thirds and the number of its rule
 unfoldable pub row : (frame d1 r1 d2 r2 : ℕ) → List ℕ

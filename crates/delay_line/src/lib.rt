@@ -53,7 +53,7 @@ pub fn heading(out: &mut [u8; ROOM]) -> usize
     ensures { λ r. ⌜ (r ≤ 256) × ((r ≡ length heading) × (now (out .exit) ≡ over heading (now (out .entry)))) ⌝ }
 {
     put(
-        b"# delays in thirds of a sample, each with its rule: 1 coded in thirds, 2 coded whole, 3 coded relative to the first, 4 carried after bad parity, 5 carried in concealment\n# frame delay rule delay rule\n",
+        b"# delays in thirds of a sample, each with its rule: 1 coded in thirds, 2 coded whole, 3 coded relative to the first, 4 carried after bad parity, 5 carried in concealment\n# frame delay1 rule1 delay2 rule2\n",
         0,
         out,
     )
