@@ -1,0 +1,3 @@
+-- Theorems on tables of delays.
+pub mod Whole
+pub mod Back
