@@ -1,15 +1,14 @@
 -- A row reads back: from its text its five numbers, and from a delay in thirds the integer and the fraction, -1, 0 or 1. Assumes nothing.
 use mathlib.Core.Path.{_≡_, refl}
-use mathlib.Core.Bool.{Bool, true, false, cond}
+use mathlib.Core.Bool.{true, false, cond}
 use mathlib.Core.List.{List, [], _∷_, _++_, append-assoc}
 use Prim.Native.Nat.{ℕ, zero, suc, _+_, _-_, _*_, _/_, _%_, _≤_, _<_}
 use native.Mathlib.Omega.{arith}
 use borrow.Author.Tests.{le-ltb}
 use lib.Dec.{T, leb}
-use lib.IntN.{ℤ, pos, negsuc, _+ℤ_, _-ℤ_, _*ℤ_}
+use lib.IntN.{ℤ, pos, negsuc, _-ℤ_}
 use mir.Facts.{and-yes, leb-yes}
 use Rattle.laws.specs.Loops.{both-hold}
-use Rattle.text.specs.Text.{ascii}
 use Rattle.print.specs.Print.{decimal, figure}
 use Rattle.print.specs.Laws.{number-decimal}
 use Rattle.print.specs.Laws.{read as value}

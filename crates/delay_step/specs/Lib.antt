@@ -1,3 +1,3 @@
--- The definitions that the contracts of `delay_step` cite, their laws, and that a table has what the frame call hands up.
+-- The definitions that the contracts of `delay_step` cite, and their laws.
 pub mod Step
 pub mod Laws

@@ -1,8 +1,8 @@
 -- The rule and the fields together determine the delay, given the one carried into that subframe or, for rule 3, the first subframe's (change request 12): one
 -- function, for all numbers. Assumes nothing.
-use Prim.Native.Nat.{ℕ, _+_, _-_, _*_, _/_, _%_}
+use Prim.Native.Nat.{_+_, _-_, _*_, _/_, _%_}
 use mathlib.Core.Path.{_≡_, refl}
-use mathlib.Core.Bool.{Bool, true, false, cond}
+use mathlib.Core.Bool.{Bool, true, false}
 use lib.Dec.{ltb}
 use lib.IntN.{ℤ, pos, _+ℤ_, _-ℤ_}
 use Rattle.bitstream.specs.declared.SpeechParams.{SpeechParams}

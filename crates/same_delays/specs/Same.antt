@@ -3,7 +3,7 @@ use Prim.Native.Nat.{ℕ}
 use mathlib.Core.Path.{_≡_, refl, ap, sym, _∙_}
 use mathlib.Core.Bool.{Bool, true, false, cond}
 use mathlib.Core.List.{List, [], _∷_}
-use lib.Dec.{T, eqb}
+use lib.Dec.{eqb}
 use lib.Ieee.Bits.{is-true}
 use lib.IntN.{ℤ, pos}
 use lib.ListN.{length, replicate, length-replicate}
@@ -12,7 +12,6 @@ use Rattle.block.specs.Places.{frame-length}
 use Rattle.bitstream.specs.declared.SpeechParams.{SpeechParams}
 use Rattle.tables.specs.declared.Scalar.the-variants.{InitialPreviousPitchDelay}
 use Rattle.tables.specs.Layout.{scalar, table-check}
-use Rattle.pitch.specs.declared.PitchState.{PitchState}
 use Rattle.plc.specs.declared.Decision.{Decision}
 use Rattle.plc.specs.declared.Decision.the-variants.{Voice, Concealment}
 use Rattle.plc.specs.Kinds.{decide}
@@ -20,7 +19,7 @@ use Rattle.rule.specs.declared.Report.{Report}
 use Rattle.rule.specs.Rule as rule
 use Rattle.rule.specs.Determined.{of-rule, given, fields, carried-second, first-determined, second-determined}
 use Rattle.state.specs.declared.Params.{Params}
-use Rattle.state.specs.State.{State, read-params, read, write, fresh-params, fresh, accepted, delay-in-range, state-check}
+use Rattle.state.specs.State.{State, read-params, read, write, fresh-params, fresh, delay-in-range, state-check}
 use Rattle.state.specs.Laws.{read-sized, read-write, fresh-sized, fresh-accepted, accepted-of-check, check-of-accepted, accepted-parts}
 use Rattle.parameters.specs.Parameters.{parameters}
 use Rattle.parameters.specs.Parts.{Parts}
@@ -33,7 +32,7 @@ use Rattle.accepted.specs.Lengths.{sized-after}
 use Rattle.accepted.specs.Accepted.{carried-delay, frame-accepted}
 use Rattle.frame_delays.specs.declared.Scanned.{Scanned}
 use Rattle.frame_delays.specs.declared.Scanned.the-variants.{Refused, Done}
-use Rattle.frame_delays.specs.Delays.{refusal, Answer, answer, handed, left, frame-delays}
+use Rattle.frame_delays.specs.Delays.{refusal, answer, handed, left, frame-delays}
 
 -- the delay that a state block carries
 abbrev pub carried : List ℤ → ℤ

@@ -1,6 +1,5 @@
 -- `delay_line::three` meets its contract: four times a number of 16 bits has room in 32.
 use mathlib.Core.Path.{_∙_}
-use lib.Dec.{lit<}
 use mir.Syntax.{w32}
 use mir.Facts.{toZ-ofZ}
 use Rattle.laws.specs.Back.{widens, wide, still}

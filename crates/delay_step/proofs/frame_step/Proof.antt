@@ -1,6 +1,5 @@
 -- `delay_step::frame_step` meets its contract, by Count's two answers.
 use native.Mathlib.Omega.{arith}
-use mathlib.Core.Path.{_∙_}
 use denote.Ref.{now}
 use borrow.Author.Needs.{needs}
 use Rattle.delay_step.specs.Step.{kept}
