@@ -9,7 +9,6 @@ use lib.IntN.{ℤ, pos, negsuc}
 use lib.ListN.{getD}
 use borrow.Author.Tests.{ltb-false}
 use mir.Facts.{and-yes, leb-yes}
-use Rattle.bitstream.specs.declared.SpeechParams.{SpeechParams}
 use Rattle.basic_op.specs.Ops.{lesser}
 use Rattle.pitch.specs.declared.Delay.{Delay}
 use Rattle.pitch.specs.Pitch.{parity-ok, decode-t1, decode-t2, increased, first, second, erased, voice-delays, concealed-delays}
@@ -95,7 +94,7 @@ of-numbers l =
     record {
       frame = getD l 0 0;
       report =
-        record { first = of-thirds (getD l 1 0); second = of-thirds (getD l 3 0); rules = record { first = of-number (getD l 2 0); second = of-number (getD l 4 0) } };
+          record { first = of-thirds (getD l 1 0); second = of-thirds (getD l 3 0); rules = record { first = of-number (getD l 2 0); second = of-number (getD l 4 0) } };
     }
 
 -- of every frame, and every delay from 19 to 144 that is carried into it
@@ -105,5 +104,10 @@ pub row-tells : (n : ℕ) (d : Decision) (old : ℤ) → Range old
 unfolding of-numbers report-row
 row-tells n d old h =
     let r = report d (delays d old .first) (delays d old .second) in
-    rw (row-back n (thirds (r .first)) (number (r .rules .first)) (thirds (r .second)) (number (r .rules .second)),
-    first-back d old h, second-back d old h, rule-back (r .rules .first), rule-back (r .rules .second))
+    rw (
+      row-back n (thirds (r .first)) (number (r .rules .first)) (thirds (r .second)) (number (r .rules .second)),
+      first-back d old h,
+      second-back d old h,
+      rule-back (r .rules .first),
+      rule-back (r .rules .second),
+    )

@@ -1,12 +1,11 @@
 -- The table of a call's delays has what the frame call hands up (change request 12): over every list of lines, with the refused one, from every state that is taken and from the fresh one. Assumes nothing.
 use Prim.Native.Nat.{ℕ}
-use mathlib.Core.Path.{_≡_, refl, ap, sym, _∙_}
+use mathlib.Core.Path.{_≡_, refl, ap, _∙_}
 use mathlib.Core.Bool.{Bool, true, false, cond}
 use mathlib.Core.List.{List, [], _∷_, _++_}
 use lib.Dec.{eqb}
 use lib.IntN.{ℤ, pos}
 use lib.ListN.{take, replicate}
-use Rattle.laws.specs.Lists.{at}
 use Rattle.tables.specs.declared.Scalar.the-variants.{InitialPreviousPitchDelay}
 use Rattle.tables.specs.Layout.{scalar, table-check}
 use Rattle.kind.specs.Kind.{payload-length}
