@@ -5,7 +5,9 @@ use mathlib.Core.List.{List, [], _∷_, _++_, append-assoc}
 use Prim.Native.Nat.{ℕ, zero, suc, _+_, _-_, _*_, _/_, _%_, _≤_, _<_}
 use native.Mathlib.Omega.{arith}
 use borrow.Author.Tests.{le-ltb}
-use lib.IntN.{pos, _-ℤ_}
+use lib.Dec.{T, leb}
+use lib.IntN.{ℤ, pos, negsuc, _-ℤ_}
+use mir.Facts.{and-yes, leb-yes}
 use Rattle.laws.specs.Loops.{both-hold}
 use Rattle.print.specs.Print.{decimal, figure}
 use Rattle.print.specs.Laws.{number-decimal}
@@ -14,6 +16,7 @@ use Rattle.arrival_line.specs.ArrivalLine.{is-digit, all-digits}
 use Rattle.arrival_line.specs.Undo.{all-decimal}
 use Rattle.pitch.specs.declared.Delay.{Delay}
 use Rattle.pitch.specs.Pitch.{nat}
+use Rattle.pitch.specs.Laws.{between}
 use Rattle.delay_line.specs.DelayLine.{thirds, row}
 
 -- ---- the numbers of a text
@@ -69,3 +72,18 @@ thirds-back k f h g =
     let i : (3 * k + f - 1 + 1) / 3 ≡ k = omega arith in
     let j : (3 * k + f - 1 + 1) % 3 ≡ f = omega arith in
     rw (thirds-are k f h g, i, j)
+
+-- a delay of a frame: 19 to 144 samples, and a fraction of -1, 0 or 1
+pub thirds-tell : (d : Delay) → T (between (pos 19) (pos 144) (d .integer)) → T (between (negsuc 0) (pos 1) (d .fraction)) → of-thirds (thirds d) ≡ d
+thirds-tell d h g = go (d .integer) (d .fraction) h g
+  where
+    some : (k : ℕ) → T (between (pos 19) (pos 144) (pos k)) → 0 < k
+    some k h = omega (arith, leb-yes {a = 19} {b = k} (and-yes (leb 19 k) (leb k 144) h .0))
+
+    go : (z f : ℤ) → T (between (pos 19) (pos 144) z) → T (between (negsuc 0) (pos 1) f) → of-thirds (thirds (record { integer = z; fraction = f })) ≡ record { integer = z; fraction = f }
+    go (negsuc n) f h g = absurd h
+    go (pos k) (negsuc zero) h g = thirds-back k 0 (some k h) (omega arith)
+    go (pos k) (negsuc (suc n)) h g = absurd (omega (arith, leb-yes {a = suc n} {b = 0} (and-yes (leb (suc n) 0) true g .0)))
+    go (pos k) (pos zero) h g = thirds-back k 1 (some k h) (omega arith)
+    go (pos k) (pos (suc zero)) h g = thirds-back k 2 (some k h) (omega arith)
+    go (pos k) (pos (suc (suc n))) h g = absurd (omega (arith, leb-yes {a = suc (suc n)} {b = 1} g))

@@ -1,2 +1,3 @@
--- A table of delays beside the decoding of the same lines.
-pub mod Beside
+-- Theorems on tables of delays.
+pub mod Whole
+pub mod Back
