@@ -1,0 +1,468 @@
+#!/usr/bin/env python3
+"""Turns a crate's Proof.antt files that close by `tie.spec` to Invariants.antt and Answers.antt.
+
+usage: tools/proofs_to_answers.py NAMES.json crates/NAME..
+
+NAMES.json is what `rt check --generated DIR --old-names` writes. An answer that is `search rules` alone is left out.
+"""
+import json
+import os
+import re
+import sys
+
+OPEN, CLOSE = "([{", ")]}"
+
+
+def norm(w):
+    return w.replace("-", "_")
+
+
+def top_split(text):
+    """The arguments of a call: split at blanks outside brackets."""
+    out, depth, cur = [], 0, ""
+    for ch in text:
+        if ch in OPEN:
+            depth += 1
+        if ch in CLOSE:
+            depth -= 1
+        if ch.isspace() and depth == 0:
+            if cur:
+                out.append(cur)
+            cur = ""
+        else:
+            cur += ch
+    if cur:
+        out.append(cur)
+    return out
+
+
+def commas(text):
+    out, depth, cur = [], 0, ""
+    for ch in text:
+        if ch in OPEN:
+            depth += 1
+        if ch in CLOSE:
+            depth -= 1
+        if ch == "," and depth == 0:
+            out.append(cur.strip())
+            cur = ""
+        else:
+            cur += ch
+    if cur.strip():
+        out.append(cur.strip())
+    return out
+
+
+def inner(text):
+    """What stands in the outermost brackets, if they hold the whole."""
+    t = text.strip()
+    if not t.startswith("("):
+        return None
+    depth = 0
+    for i, ch in enumerate(t):
+        if ch in OPEN:
+            depth += 1
+        if ch in CLOSE:
+            depth -= 1
+            if depth == 0:
+                return t[1:i] if i == len(t) - 1 else None
+    return None
+
+
+class Decl:
+    def __init__(self):
+        self.comments, self.name, self.head, self.type, self.unfolding, self.clauses = [], None, "", "", [], []
+
+
+def parse(text):
+    lines = text.split("\n")
+    head, uses, decls, pending = [], [], [], []
+    cur = None
+    i = 0
+    while i < len(lines):
+        l = lines[i]
+        if not l.strip():
+            if cur and cur.clauses:
+                cur = None
+            i += 1
+            continue
+        if l.startswith("--"):
+            if not uses and not decls:
+                head.append(l)
+            else:
+                pending.append(l)
+                cur = None
+        elif l.startswith("use "):
+            uses.append(l)
+        elif l.startswith("unfolding "):
+            cur.unfolding.append(l)
+        elif l[0].isspace():
+            if not cur.clauses:
+                cur.type += "\n" + l
+            else:
+                cur.clauses[-1] += "\n" + l
+        else:
+            m = re.match(r"((?:abbrev |pub |unfoldable )*)([^\s:{(]+)((?: *\{[^}]*\})*) : (.*)$", l)
+            if m and not (cur and cur.name == m.group(2) and cur.clauses == [] and re.match(r"[^:]*=", l)):
+                cur = Decl()
+                cur.comments, pending = pending, []
+                cur.head, cur.name, cur.type = m.group(1), m.group(2), m.group(4)
+                cur.extra = m.group(3)
+                decls.append(cur)
+            else:
+                if cur is None:
+                    raise ValueError("loose line: " + l)
+                cur.clauses.append(l)
+        i += 1
+    return head, uses, decls
+
+
+PATH = re.compile(r"(?<![\w'₀-₉.◌-])([A-Za-z_κ][\w'₀-₉]*)((?:\.[\w'₀-₉«»-]+)*)(?![\w'₀-₉-])")
+
+
+class Conv:
+    def __init__(self, entry, clauses, crate, fn):
+        self.e, self.clauses, self.crate, self.fn = entry, clauses, crate, fn
+        self.parent, self.field, self.callee, self.newplace = {}, {}, {}, {}
+        for p, n in zip(entry["places"], entry["places_by_name"]):
+            self.parent[norm(p[0])] = norm(p[1]) if p[1] else None
+            self.field[norm(p[0])] = (norm(p[2][0]), p[2][1])
+            self.callee[norm(p[0])] = p[3]
+            self.newplace[norm(p[0])] = n
+        self.warn = []
+
+    def names_of(self, callee, kind):
+        if not callee:
+            return []
+        return self.clauses.get(callee, {}).get(kind, [])
+
+    def clause(self, parts, names):
+        """`.0`, `.1.0` .. of several clauses, by their names."""
+        if len(names) < 2:
+            return parts
+        k, i = 0, 0
+        while i < len(parts) and parts[i] in ("0", "1"):
+            if parts[i] == "0":
+                return [names[k]] + parts[i + 1:]
+            k += 1
+            i += 1
+            if k == len(names) - 1:
+                return [names[k]] + parts[i:]
+        self.warn.append("clauses " + ".".join(parts))
+        return parts
+
+    def path(self, place, parts, var="c"):
+        while parts and parts[0] == "before":
+            place = self.parent.get(place)
+            parts = parts[1:]
+        if not parts:
+            return place, None
+        if place is None:
+            self.warn.append("no place " + ".".join(parts))
+            return place, var + "." + ".".join(parts)
+        f = parts[0]
+        rest = parts[1:]
+        own = self.field.get(place, ("", ""))
+        if norm(f) == own[0] or norm(f).lower() == own[0].lower():
+            if rest[:1] == ["ensures"]:
+                rest = ["ensures"] + self.clause(rest[1:], self.names_of(self.callee[place], "ensures"))
+            return place, var + "." + ".".join([own[1]] + rest)
+        if f in ("requires",):
+            rest = self.clause(rest, self.names_of(self.crate + "::" + self.fn, "requires"))
+        if f in ("well-formed", "well_formed"):
+            f = "well_formed"
+        elif f not in ("args", "requires", "ranges", "lifetimes", "type_inv", "loop", "measure"):
+            # a field of an ancestor that the old record had here too
+            up = place
+            while up is not None:
+                if norm(f) == self.field[up][0]:
+                    return place, var + "." + ".".join([self.field[up][1]] + rest)
+                up = self.parent.get(up)
+            self.warn.append(f"field {f} at {place}")
+        return place, var + "." + ".".join([f] + rest)
+
+    def expr(self, text, place, need, var="c"):
+        """The text of an answer at a place, with the paths of today."""
+        alias = {var: place}
+        # aliases by let
+        while True:
+            m = re.search(r"let ([\w'₀-₉]+) = ([\w'₀-₉]+)((?:\.before)*) in\s*", text)
+            done = False
+            for m in re.finditer(r"let ([\w'₀-₉]+) = ([\w'₀-₉]+)((?:\.[\w'₀-₉«»-]+)*) in\s*", text):
+                root, parts = m.group(2), [x for x in m.group(3).split(".") if x]
+                if root in alias and all(x == "before" for x in parts) and not isinstance(alias[root], str) is False:
+                    p = alias[root]
+                    for _ in parts:
+                        p = self.parent.get(p)
+                    alias[m.group(1)] = p
+                    text = text[: m.start()] + text[m.end():]
+                    done = True
+                    break
+            if not done:
+                break
+
+        def sub(m):
+            root, parts = m.group(1), [x for x in m.group(2).split(".") if x]
+            if root not in alias:
+                return m.group(0)
+            p, out = self.path(alias[root], parts)
+            if out is None:
+                if p == place and need is None:
+                    return "c"
+                name = self.newplace.get(p, "?")
+                if need is None:
+                    return f"(goal.at.{name} c)"
+                return f"(goal.at.{need} c).{name}"
+            return out
+
+        return PATH.sub(sub, text)
+
+
+def contracts_of(root):
+    """crate::path::fn -> names of its clauses, in order."""
+    out = {}
+    for crate in sorted(os.listdir(os.path.join(root, "crates"))):
+        src = os.path.join(root, "crates", crate, "src")
+        if not os.path.isdir(src):
+            continue
+        for f in sorted(os.listdir(src)):
+            if not f.endswith(".rt"):
+                continue
+            mod = [] if f in ("lib.rt", "main.rt") else [f[:-3]]
+            impl = None
+            fn = None
+            for l in open(os.path.join(src, f), encoding="utf-8"):
+                m = re.match(r"impl(?:<[^>]*>)? (?:\w+ for )?(\w+)", l)
+                if m:
+                    impl = m.group(1)
+                if l.startswith("}"):
+                    impl = None
+                m = re.match(r"\s*(?:pub(?:\([^)]*\))? )?(?:const )?(?:unsafe )?(?:extern \"C\" )?fn (\w+)", l)
+                if m:
+                    fn = "::".join([crate] + mod + ([impl] if impl and l[0].isspace() else []) + [m.group(1)])
+                    out[fn] = {"ensures": [], "requires": []}
+                for m in re.finditer(r"^\s+(requires|ensures) (\w+) \{", l):
+                    if fn:
+                        out[fn][m.group(1)].append(m.group(2))
+    return out
+
+
+def strip_lambda(a):
+    t = inner(a)
+    t = t if t is not None else a
+    m = re.match(r"\s*λ (c(?: κs)?)\.\s*(.*)$", t, re.S)
+    return m.group(2) if m else None
+
+
+def tupled(body, names):
+    """The body of an answer for several clauses."""
+    m = re.match(r"((?:\s*let .*? in\b)*)(.*)$", body, re.S)
+    # the last bracket that ends the body
+    at = None
+    depth = 0
+    for i in range(len(body) - 1, -1, -1):
+        ch = body[i]
+        if ch in CLOSE:
+            depth += 1
+        elif ch in OPEN:
+            depth -= 1
+            if depth == 0:
+                at = i
+                break
+        elif depth == 0 and not ch.isspace():
+            break
+    if at is not None:
+        before = body[:at].rstrip()
+        parts = commas(inner(body[at:].strip()) or "")
+        if (before == "" or before.endswith(" in") or before == "in") and len(parts) >= 2:
+            flat = parts
+            while len(flat) < len(names) and inner(flat[-1]) and len(commas(inner(flat[-1]))) > 1:
+                flat = flat[:-1] + commas(inner(flat[-1]))
+            if len(flat) > len(names):
+                flat = flat[: len(names) - 1] + ["(" + ", ".join(flat[len(names) - 1:]) + ")"]
+            if len(flat) == len(names):
+                return before + ("\n    " if before else "") + "record { " + "; ".join(f"{n} = {p}" for n, p in zip(names, flat)) + " }"
+    b = body.strip()
+    if b == "search rules":
+        return "record { " + "; ".join(f"{n} = search rules" for n in names) + " }"
+    if len(names) == 2:
+        return f"let all = {b} in record {{ {names[0]} = all.0; {names[1]} = all.1 }}"
+    if len(names) == 3:
+        return f"let all = {b} in record {{ {names[0]} = all.0; {names[1]} = all.1.0; {names[2]} = all.1.1 }}"
+    return body
+
+
+def turn(path, entry, clauses, crate, modpath, out):
+    text = open(path, encoding="utf-8").read()
+    head, uses, decls = parse(text)
+    fn = "::".join(modpath)
+    conv = Conv(entry, clauses, crate, fn)
+    byname = {d.name: d for d in decls}
+    spec = next(d for d in decls if d.name.endswith("_spec"))
+    body = "\n".join(spec.clauses).split("=", 1)[1]
+    m = re.search(r"tie\.close\s*\(tie\.spec(.*)\)\s*$", body, re.S) or re.search(r"tie\.close\s*(tie\.spec)\s*$", body, re.S)
+    if not m:
+        raise ValueError("no tie.spec")
+    args = top_split(m.group(1)) if m.group(1) != "tie.spec" else []
+    # (λ c. x) may have been split at the top level? it stands in brackets always
+    loops = entry["loops"]
+    ninv = sum(2 for _ in loops)
+    needs = entry["needs"]
+    given, answers = args[:ninv], args[ninv:]
+    if len(answers) != len(needs):
+        raise ValueError(f"{len(answers)} answers for {len(needs)} goals: {[n[1] for n in needs]}")
+    base = [u for u in uses if not re.search(r"\.(Statement|Tie)\b", u) and "borrow.Author.Rules" not in u]
+    rules = "use Rattle.std.proofs.Common.{rules}"
+    dotted = ".".join(modpath)
+    inv_lines, ans_lines, used_helpers = [], [], []
+    goal_types = set()
+    for d in decls:
+        if d is spec:
+            continue
+        t = d.type.replace("\n", " ")
+        gm = re.match(r"\s*tie\.(\S+)", t)
+        if d.name in given:
+            k = given.index(d.name)
+            (old, new), vs = loops[k // 2][0], loops[k // 2][1]
+            kind = "invariant" if k % 2 == 0 else "decreases"
+            changed = entry["changed"][k // 2]
+            m = re.match(r"(\S+)((?: [^=]*?)?) =(.*)$", "\n".join(d.clauses), re.S)
+            params = m.group(2).split()
+            first = [v for v in vs]
+            want = len(vs) + sum(changed)
+            if len(params) != want:
+                raise ValueError(f"{d.name}: {len(params)} parameters for {want}: {params} {vs} {changed}")
+            sub = {}
+            for v, ch, p in zip(vs, changed, params):
+                sub[p] = ("l.initial." if ch else "l.") + v
+            rest = [v for v, ch in zip(vs, changed) if ch]
+            for v, p in zip(rest, params[len(vs):]):
+                sub[p] = "l." + v
+            b = m.group(3)
+
+            def s(mm):
+                if mm.group(1) in sub:
+                    return sub[mm.group(1)] + mm.group(2)
+                return mm.group(0)
+
+            pat = re.compile(r"(?<![\w'₀-₉.◌-])([A-Za-zκ_«][\w'₀-₉»-]*)((?:\.[\w'₀-₉«»-]+)*)(?![\w'₀-₉◌])")
+            b = pat.sub(s, b)
+            inv_lines += d.comments + [f"abbrev pub {kind}-{new} : goal.{kind}-{new}"] + d.unfolding + [f"{kind}-{new} l ={b}", ""]
+            continue
+    # helpers and answers
+    position = {}
+    for i, a in enumerate(answers):
+        if re.fullmatch(r"[\w'₀-₉-]+", a):
+            position.setdefault(a, []).append(i)
+    emitted = set()
+
+    def answer(i, body, unf, comments):
+        old, new = needs[i]
+        place = norm(entry["asked_at"][i][0])
+        b = conv.expr(body, place, new)
+        names = entry["asked"].get(old) or entry["asked"].get(new)
+        if not names and new.endswith("-requires") or (names is None and re.search(r"-requires(-|$)", new)):
+            callee = None
+            # the callee of that call, by its name
+            base_name = re.sub(r"-requires.*", "", new)
+            for k, v in conv.clauses.items():
+                if k.split("::")[-1] == base_name.split("-")[0] and (k.startswith(crate + "::") or callee is None):
+                    if len(v["requires"]) > 1:
+                        callee = k
+            names = conv.names_of(callee, "requires") if callee else None
+        if names and len(names) > 1:
+            b = tupled(b, names)
+        sep = "" if b.startswith("\n") or b.startswith(" ") else " "
+        return comments + [f"pub {new} : goal.{new}"] + unf + [f"{new} c ={sep}{b}", ""]
+
+    for d in decls:
+        if d is spec or d.name in given:
+            continue
+        if d.name in position:
+            if len(d.clauses) != 1:
+                raise ValueError(f"{d.name} has {len(d.clauses)} clauses")
+            m = re.match(r"(\S+) c(?: κs)? =(.*)$", d.clauses[0], re.S)
+            if not m:
+                m0 = re.match(r"(\S+) =(.*)$", d.clauses[0], re.S)
+                raise ValueError(f"{d.name}: {d.clauses[0][:60]}")
+            for i in position[d.name]:
+                if m.group(2).strip() == "search rules" and not d.unfolding:
+                    continue
+                ans_lines += answer(i, m.group(2), d.unfolding, d.comments)
+        else:
+            t = d.type
+            cl = "\n".join(d.clauses)
+            ms = list(re.finditer(r"\(([\w'₀-₉]+) : tie\.(\S+?)((?: invariant_\w+| decreases_\w+)*)\)", t))
+            if ms:
+                var = ms[0].group(1)
+                place = norm(ms[0].group(2))
+                new = conv.newplace.get(place, ms[0].group(2))
+                goal_types.add(new)
+                rest = t[ms[0].end():]
+                t = t[: ms[0].start()] + f"({var} : {new})" + conv.expr(rest, place, None, var).replace("c.", var + ".") if var != "c" else t[: ms[0].start()] + f"({var} : {new})" + conv.expr(rest, place, None, var)
+                head_, eq, tail = cl.partition("=")
+                cl = head_ + eq + conv.expr(tail, place, None, var)
+            used_helpers.append(d.name)
+            ans_lines += d.comments + [f"{d.head}{d.name}{getattr(d, 'extra', '')} : {t}"] + d.unfolding + [cl, ""]
+    for i, a in enumerate(answers):
+        if re.fullmatch(r"[\w'₀-₉-]+", a):
+            if a not in byname:
+                ans_lines += answer(i, f" {a} c", [], [])
+            continue
+        b = strip_lambda(a)
+        if b is None:
+            ans_lines += answer(i, f" {a} c", [], [])
+            continue
+        if b.strip() == "search rules":
+            continue
+        ans_lines += answer(i, " " + b, [], [])
+    folder = os.path.dirname(path)
+    said = []
+    if inv_lines:
+        t = "\n".join(head + base + [f"use Rattle.{crate}.proofs.{dotted}.Given as goal", ""] + inv_lines).rstrip() + "\n"
+        out[os.path.join(folder, "Invariants.antt")] = t
+    if any(l.strip() for l in ans_lines):
+        imp = [f"use Rattle.{crate}.proofs.{dotted}.Goals as goal"]
+        if goal_types:
+            imp.append(f"use Rattle.{crate}.proofs.{dotted}.Goals.{{{', '.join(sorted(goal_types))}}}")
+        hd = head if not inv_lines else [f"-- The answers of `{crate}::{'::'.join(modpath)}`."]
+        b = base + ([rules] if any("search rules" in l for l in ans_lines) or "search (rules" in "\n".join(ans_lines) else [])
+        t = "\n".join(hd + b + imp + [""] + ans_lines).rstrip() + "\n"
+        out[os.path.join(folder, "Answers.antt")] = t
+    return conv.warn
+
+
+def main():
+    names = json.load(open(sys.argv[1]))
+    clauses = contracts_of(".")
+    done = bad = 0
+    for crate_dir in sys.argv[2:]:
+        crate = os.path.basename(crate_dir.rstrip("/"))
+        for folder, dirs, files in os.walk(os.path.join(crate_dir, "proofs")):
+            if "Proof.antt" not in files:
+                continue
+            path = os.path.join(folder, "Proof.antt")
+            modpath = os.path.relpath(folder, os.path.join(crate_dir, "proofs")).split(os.sep)
+            key = f"Rattle-{crate}-proofs.{'.'.join(modpath)}.Lts"
+            if key not in names:
+                print(f"left: {path}: no names")
+                bad += 1
+                continue
+            out = {}
+            try:
+                warn = turn(path, names[key], clauses, crate, modpath, out)
+            except Exception as e:
+                print(f"left: {path}: {e}")
+                bad += 1
+                continue
+            for p, t in out.items():
+                open(p, "w", encoding="utf-8").write(t)
+            os.remove(path)
+            done += 1
+            for w in warn:
+                print(f"look: {path}: {w}")
+    print(f"{done} turned, {bad} left")
+
+
+if __name__ == "__main__":
+    main()
