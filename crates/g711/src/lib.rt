@@ -1,4 +1,6 @@
 // G.711: A-law and mu-law bytes as samples of 16 bits, from stored tables, and samples back to bytes (change request 8; ITU-T G.711).
+#![tactic(auto)]
+
 ghost use Rattle.std.specs.Prelude.{◌≡◌, map, ◌≤◌, ◌<◌, nat_abs, length};
 ghost use Rattle.g711.specs.G711.{a, mu, known, refusal, Read, Written, read_call, write_call};
 ghost use Rattle.g711.specs.Laws.{Expanded};

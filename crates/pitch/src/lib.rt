@@ -1,5 +1,7 @@
 // The pitch delay (G.729): its parity (clause 3.7.2), the decoding of both subframes' delays (clauses 4.1.2 and 4.1.3), and the delay of an
 // erased subframe (clause 4.4.4).
+#![tactic(auto)]
+
 ghost use Rattle.std.specs.Prelude.{◌≡◌, ◌/◌, ◌<◌, ◌≤◌};
 ghost use Rattle.pitch.specs.Pitch.{parity_ok, decode_t1, decode_t2, nat, t_min, track, carried, increased, first, second, erased, voice_delays, concealed_delays};
 ghost use Rattle.pitch.specs.Laws.{in_thirds};
