@@ -365,6 +365,9 @@ def turn(path, entry, clauses, crate, modpath, out):
 
             pat = re.compile(r"(?<![\w'₀-₉.◌-])([A-Za-zκ_«][\w'₀-₉»-]*)((?:\.[\w'₀-₉«»-]+)*)(?![\w'₀-₉◌])")
             b = pat.sub(s, b)
+            # a signed variable is a number in an invariant of today
+            b = re.sub(r"\(to_z w\d+ (l\.[\w.«»-]+)\)", r"\1", b)
+            b = re.sub(r"\bto_z w\d+ (l\.[\w.«»-]+)", r"\1", b)
             inv_lines += d.comments + [f"abbrev pub {kind}-{new} : goal.{kind}-{new}"] + d.unfolding + [f"{kind}-{new} l ={b}", ""]
             continue
     # helpers and answers
