@@ -168,6 +168,15 @@ class Conv:
         if own[0] and norm(f).lower() == own[0].lower():
             if rest[:1] == ["ensures"]:
                 rest = ["ensures"] + self.clause(rest[1:], self.names_of(self.callee[place], "ensures"))
+            if rest[:1] == ["new"] and rest[1:2] in (["0"], ["1"]):
+                k = 1
+                while k < len(rest) and rest[k] == "1":
+                    k += 1
+                names = self.e["params"].get(self.callee[place] or "", [])
+                if k < len(rest) and rest[k] == "0" and k - 1 < len(names):
+                    rest = ["new", names[k - 1]] + rest[k + 1:]
+                else:
+                    self.warn.append("new of " + str(self.callee[place]))
             return var + "." + ".".join([own[1]] + rest)
         return None
 
@@ -238,6 +247,8 @@ class Conv:
         # a call's step is a record of its own today, so what it gives is cited by its fields
         text = re.sub(r"\bcame (w\d+) ([A-Za-z][\w'₀-₉.«»-]*)", r"via \1 \2.result \2.type_inv", text)
         text = re.sub(r"\bfits_came (w\d+) ([A-Za-z][\w'₀-₉.«»-]*)", r"fits_by \1 \2.result \2.type_inv", text)
+        # a test of `!x` says of x itself what it says
+        text = re.sub(r"\bnot-(true|false) (\((?:[^()]|\([^()]*\))*\)|\S+) (c\.if-not[\w'.«»-]*\.(?:true|false))", r"\3", text)
         return text
 
 
