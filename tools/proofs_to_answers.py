@@ -135,6 +135,7 @@ class Conv:
             o, n = old.replace(" ", "").strip("."), new.replace(" ", "").strip(".")
             self.argmap[tuple(norm(x) for x in o.split("."))] = n.split(".")
         self.warn = []
+        self.helpers = {}
 
     def names_of(self, callee, kind):
         if not callee:
@@ -237,6 +238,10 @@ class Conv:
                 return m.group(0)
             p, out = self.path(place, alias[root], parts)
             if out is None:
+                # a helper says of which place it speaks
+                before = re.search(r"([\w'₀-₉]+) +\(?$", text[: m.start()])
+                if before and before.group(1) in self.helpers:
+                    p = self.helpers[before.group(1)]
                 up, q = "", place
                 while q != p and q is not None:
                     q, up = self.parent.get(q), up + ".before"
@@ -386,6 +391,8 @@ def tupled(body, names):
             flat = parts
             while len(flat) < len(names) and inner(flat[-1]) and len(commas(inner(flat[-1]))) > 1:
                 flat = flat[:-1] + commas(inner(flat[-1]))
+            while len(flat) < len(names) and flat[-1] == "search rules":
+                flat = flat + ["search rules"]
             if len(flat) > len(names):
                 flat = flat[: len(names) - 1] + ["(" + ", ".join(flat[len(names) - 1:]) + ")"]
             if len(flat) == len(names):
@@ -464,7 +471,14 @@ def turn(path, entry, clauses, crate, modpath, out):
             inv_lines += d.comments + [f"abbrev pub {kind}-{new} : goal.{kind}-{new}"] + d.unfolding + [f"{kind}-{new} {L} ={b}", ""]
             continue
     # helpers and answers
+    for d in decls:
+        hm = re.search(r"\([\w'₀-₉]+ : tie\.(\S+?)(?: invariant_\w+| decreases_\w+)*\)", d.type)
+        if hm:
+            conv.helpers[d.name] = norm(hm.group(1))
     position = {}
+    for i, a in enumerate(answers):
+        if re.fullmatch(r"[\w'₀-₉-]+", a):
+            conv.helpers[a] = norm(entry["asked_at"][i][0])
     for i, a in enumerate(answers):
         if re.fullmatch(r"[\w'₀-₉-]+", a):
             position.setdefault(a, []).append(i)

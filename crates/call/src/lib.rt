@@ -13,7 +13,7 @@ use line_step::Progress;
 use print::{FORM_ROOM, FRAME_ROOM};
 
 // How far the call is after the lines taken; and how many bytes of input were used and of output written.
-#[derive(Drop)]
+#[derive(Clone, Copy)]
 pub struct Taken {
     pub job: Progress,
     pub used: usize,

@@ -36,7 +36,7 @@ pub const CALL_ENDS: u32 = 4;
 pub const DONE: u32 = 5;
 
 // How far a comparison is: 0, or the number of the refusal that ended it; and what was counted.
-#[derive(Drop)]
+#[derive(Clone, Copy)]
 pub struct Standing {
     pub code: u32,
     pub tally: Tally,
@@ -45,7 +45,7 @@ pub struct Standing {
 }
 
 // The standing behind a frame, and how many bytes were printed, of the report and of the samples.
-#[derive(Drop)]
+#[derive(Clone, Copy)]
 pub struct Stepped {
     pub at: Standing,
     pub written: usize,
@@ -53,7 +53,7 @@ pub struct Stepped {
 }
 
 // The standing behind a turn; how many bytes of the call and of the far end were taken; and how many were printed.
-#[derive(Drop)]
+#[derive(Clone, Copy)]
 pub struct Taken {
     pub at: Standing,
     pub line: usize,

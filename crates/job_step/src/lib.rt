@@ -11,7 +11,7 @@ use job::Saved;
 use print::FRAME_ROOM;
 
 // A file by its device and inode number, where it is there.
-#[derive(Drop)]
+#[derive(Clone, Copy)]
 pub struct File {
     pub there: bool,
     pub device: u64,

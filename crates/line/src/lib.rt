@@ -16,14 +16,14 @@ pub const SHORTEST: usize = 14;
 pub const LONGEST: usize = 36;
 
 // An answer of Line: the number of its refusal, or the kind of frame.
-#[derive(Drop)]
+#[derive(Clone, Copy)]
 pub enum Read {
     Refused(u32),
     Frame(u32),
 }
 
 // An answer of `write`: the number of its refusal, or the length of the line.
-#[derive(Drop)]
+#[derive(Clone, Copy)]
 pub enum Written {
     Refused(u32),
     Done(usize),
