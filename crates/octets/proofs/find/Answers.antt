@@ -15,4 +15,4 @@ loop-i-preserved c =
 pub returns-clause-place : goal.returns-clause-place
 returns-clause-place c =
     let e : c.loop-i.i ≡ c.args.to = omega arith in
-    rw e at (nothing c.args.x c.args.bytes.now c.args.to ∙ sym (rw e at c.loop-i.invariant.1))
+    nothing c.args.x c.args.bytes.now c.args.to ∙ sym (rw e at c.loop-i.invariant.1)
