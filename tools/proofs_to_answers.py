@@ -229,8 +229,8 @@ class Conv:
 
         text = PATH.sub(sub, text)
         # a call's step is a record of its own today, so what it gives is cited by its fields
-        text = re.sub(r"\bcame (w\d+) (c\.[\w'₀-₉.«»-]+)", r"via \1 \2.result \2.type_inv", text)
-        text = re.sub(r"\bfits_came (w\d+) (c\.[\w'₀-₉.«»-]+)", r"fits_by \1 \2.result \2.type_inv", text)
+        text = re.sub(r"\bcame (w\d+) ([A-Za-z][\w'₀-₉.«»-]*)", r"via \1 \2.result \2.type_inv", text)
+        text = re.sub(r"\bfits_came (w\d+) ([A-Za-z][\w'₀-₉.«»-]*)", r"fits_by \1 \2.result \2.type_inv", text)
         return text
 
 
@@ -261,6 +261,55 @@ def contracts_of(root):
                     if fn:
                         out[fn][m.group(1)].append(m.group(2))
     return out
+
+
+def joins(text, entry, goal_types):
+    """Where two branches join: `⊎_elim (λ w. A) (λ w. B) c.if-x.branch` becomes an `elim` with a case for each."""
+    while True:
+        at = text.find("⊎_elim ")
+        if at < 0:
+            return text
+        rest = text[at + len("⊎_elim "):]
+        parts, depth, k = [], 0, 0
+        cur = ""
+        while k < len(rest) and len(parts) < 3:
+            ch = rest[k]
+            if ch in OPEN:
+                depth += 1
+            if ch in CLOSE:
+                if depth == 0:
+                    break
+                depth -= 1
+            if depth == 0 and (ch.isspace() or ch in ",") and cur:
+                parts.append(cur)
+                cur = ""
+                if ch == ",":
+                    break
+            elif depth > 0 or not ch.isspace():
+                cur += ch
+            k += 1
+        if cur and len(parts) < 3:
+            parts.append(cur)
+        if len(parts) != 3:
+            return text
+        end = text.index(parts[2], at) + len(parts[2])
+        m = re.match(r"c\.(if-[\w'-]+)\.branch$", parts[2])
+        if not m:
+            return text.replace("⊎_elim ", "⊎-elim ", 1)
+        step = m.group(1)
+        name = step[3:]
+        vs = [v for loop, ch in zip(entry["loops"], entry["changed"]) for v, x in zip(loop[1], ch) if x and loop[0][1] != "loop-" + v]
+        var = vs[0] if vs else "x"
+
+        def case(part, which):
+            b = re.match(r"λ (\w+)\. (.*)$", inner(part), re.S)
+            w = b.group(1)
+            b = b.group(2)
+            b = re.sub(rf"\b{w}\.0\.(taken|left)", lambda q: f"{w}.{step}." + ("true" if q.group(1) == "taken" else "false"), b)
+            return f"{which}-{name} {w} ↦ " + re.sub(rf"\b{w}\.1(?![\w.])", f"{w}.{var}-is", b)
+
+        goal_types |= {"then-" + name, "else-" + name}
+        text = text[:at] + f"elim {parts[2]} [ {case(parts[0], 'then')} | {case(parts[1], 'else')} ]" + text[end:]
 
 
 def strip_lambda(a):
@@ -389,7 +438,7 @@ def turn(path, entry, clauses, crate, modpath, out):
 
         return re.sub(r"(?<![\w'₀-₉.◌-])([A-Za-z][\w'₀-₉]*)(?![\w'₀-₉.-])(?= +c\b)", sub, text)
 
-    def answer(i, body, unf, comments):
+    def answer(i, body, unf, comments, more=""):
         old, new = needs[i]
         place = norm(entry["asked_at"][i][0])
         b = conv.expr(body, place, new)
@@ -405,9 +454,9 @@ def turn(path, entry, clauses, crate, modpath, out):
             names = conv.names_of(callee, "requires") if callee else None
         if names and len(names) > 1:
             b = tupled(b, names)
-        b = cited(b)
+        b = joins(cited(b), entry, goal_types)
         sep = "" if b.startswith("\n") or b.startswith(" ") else " "
-        return comments + [f"pub {new} : goal.{new}"] + unf + [f"{new} c ={sep}{b}", ""]
+        return comments + [f"pub {new} : goal.{new}"] + unf + [f"{new} c{more} ={sep}{b}", ""]
 
     for d in decls:
         if d is spec or d.name in given:
@@ -415,15 +464,15 @@ def turn(path, entry, clauses, crate, modpath, out):
         if d.name in position:
             if len(d.clauses) != 1:
                 raise ValueError(f"{d.name} has {len(d.clauses)} clauses")
-            m = re.match(r"(\S+) c(?: κs)? =(.*)$", d.clauses[0], re.S)
+            m = re.match(r"(\S+) c(?: κs)?( i)? =(.*)$", d.clauses[0], re.S)
             if not m:
                 m0 = re.match(r"(\S+) =(.*)$", d.clauses[0], re.S)
                 raise ValueError(f"{d.name}: {d.clauses[0][:60]}")
-            for i in position[d.name]:
+            for k in position[d.name]:
                 others = "\n".join("\n".join(x.clauses) for x in decls if x is not d)
-                if m.group(2).strip() == "search rules" and not d.unfolding and not re.search(r"\b" + re.escape(d.name) + r" +(?:c\b|k|\()", others):
+                if m.group(3).strip() == "search rules" and not d.unfolding and not re.search(r"\b" + re.escape(d.name) + r" +(?:c\b|k|\()", others):
                     continue
-                ans_lines += answer(i, m.group(2), d.unfolding, d.comments)
+                ans_lines += answer(k, m.group(3), d.unfolding, d.comments, m.group(2) or "")
         else:
             t = d.type
             cl = "\n".join(d.clauses)
