@@ -156,42 +156,49 @@ class Conv:
         self.warn.append("clauses " + ".".join(parts))
         return parts
 
-    def path(self, place, parts, var="c"):
+    def at(self, place, parts, var):
+        """The path of a step's field, if the step is this place's."""
+        f, rest = parts[0], parts[1:]
+        if place in self.arm:
+            name, _, facts = self.arm[place]
+            for new, step, was in facts:
+                if norm(f) == norm(step) and [norm(x) for x in rest[: len(was)]] == [norm(x) for x in was]:
+                    return var + "." + ".".join([name, new] + rest[len(was):])
+        own = self.field.get(place, ("", ""))
+        if own[0] and norm(f).lower() == own[0].lower():
+            if rest[:1] == ["ensures"]:
+                rest = ["ensures"] + self.clause(rest[1:], self.names_of(self.callee[place], "ensures"))
+            return var + "." + ".".join([own[1]] + rest)
+        return None
+
+    def path(self, base, place, parts, var="c"):
         while parts and parts[0] == "before":
             place = self.parent.get(place)
             parts = parts[1:]
         if not parts:
             return place, None
-        if place is None:
-            self.warn.append("no place " + ".".join(parts))
-            return place, var + "." + ".".join(parts)
         for k, n in self.argmap.items():
             if tuple(norm(x) for x in parts[: len(k)]) == k:
                 parts = n + parts[len(k):]
                 break
         f = parts[0]
         rest = parts[1:]
-        if place in self.arm:
-            name, _, facts = self.arm[place]
-            for new, step, was in facts:
-                if norm(f) == norm(step) and [norm(x) for x in rest[: len(was)]] == [norm(x) for x in was]:
-                    return place, var + "." + ".".join([name, new] + rest[len(was):])
-        own = self.field.get(place, ("", ""))
-        if norm(f) == own[0] or norm(f).lower() == own[0].lower():
-            if rest[:1] == ["ensures"]:
-                rest = ["ensures"] + self.clause(rest[1:], self.names_of(self.callee[place], "ensures"))
-            return place, var + "." + ".".join([own[1]] + rest)
-        if f in ("requires",):
+        if place is not None:
+            found = self.at(place, parts, var)
+            if found:
+                return place, found
+        # the step of another place on the way, by its name
+        up = base
+        while up is not None:
+            found = self.at(up, parts, var)
+            if found:
+                return place, found
+            up = self.parent.get(up)
+        if f == "requires":
             rest = self.clause(rest, self.names_of(self.crate + "::" + self.fn, "requires"))
         if f in ("well-formed", "well_formed"):
             f = "well_formed"
-        elif not f.startswith(("told", "fits-")) and f not in ("args", "requires", "ranges", "lifetimes", "type_inv", "loop", "measure"):
-            # a field of an ancestor that the old record had here too
-            up = place
-            while up is not None:
-                if norm(f) == self.field[up][0]:
-                    return place, var + "." + ".".join([self.field[up][1]] + rest)
-                up = self.parent.get(up)
+        elif not f.startswith(("told", "fits-")) and f not in ("args", "requires", "ranges", "lifetimes", "type_inv", "measure"):
             self.warn.append(f"field {f} at {place}")
         return place, var + "." + ".".join([f] + rest)
 
@@ -219,7 +226,7 @@ class Conv:
             root, parts = m.group(1), [x for x in m.group(2).split(".") if x]
             if root not in alias:
                 return m.group(0)
-            p, out = self.path(alias[root], parts)
+            p, out = self.path(place, alias[root], parts)
             if out is None:
                 up, q = "", place
                 while q != p and q is not None:
@@ -394,6 +401,7 @@ def turn(path, entry, clauses, crate, modpath, out):
             kind = "invariant" if k % 2 == 0 else "decreases"
             changed = entry["changed"][k // 2]
             m = re.match(r"(\S+)((?: [^=]*?)?) =(.*)$", "\n".join(d.clauses), re.S)
+            L = next(x for x in ("l", "at", "it") if not re.search(rf"(?<![\w.]){x}(?!\w)", m.group(3)))
             params = m.group(2).split()
             first = [v for v in vs]
             want = len(vs) + sum(changed)
@@ -401,10 +409,10 @@ def turn(path, entry, clauses, crate, modpath, out):
                 raise ValueError(f"{d.name}: {len(params)} parameters for {want}: {params} {vs} {changed}")
             sub = {}
             for v, ch, p in zip(vs, changed, params):
-                sub[p] = ("l.initial." if ch else "l.") + v
+                sub[p] = (L + ".initial." if ch else L + ".") + v
             rest = [v for v, ch in zip(vs, changed) if ch]
             for v, p in zip(rest, params[len(vs):]):
-                sub[p] = "l." + v
+                sub[p] = L + "." + v
             b = m.group(3)
 
             def s(mm):
@@ -415,9 +423,9 @@ def turn(path, entry, clauses, crate, modpath, out):
             pat = re.compile(r"(?<![\w'₀-₉.◌-])([A-Za-zκ_«][\w'₀-₉»-]*)((?:\.[\w'₀-₉«»-]+)*)(?![\w'₀-₉◌])")
             b = pat.sub(s, b)
             # a signed variable is a number in an invariant of today
-            b = re.sub(r"\(to_z w\d+ (l\.[\w.«»-]+)\)", r"\1", b)
-            b = re.sub(r"\bto_z w\d+ (l\.[\w.«»-]+)", r"\1", b)
-            inv_lines += d.comments + [f"abbrev pub {kind}-{new} : goal.{kind}-{new}"] + d.unfolding + [f"{kind}-{new} l ={b}", ""]
+            b = re.sub(rf"\(to_z w\d+ ({L}\.[\w.«»-]+)\)", r"\1", b)
+            b = re.sub(rf"\bto_z w\d+ ({L}\.[\w.«»-]+)", r"\1", b)
+            inv_lines += d.comments + [f"abbrev pub {kind}-{new} : goal.{kind}-{new}"] + d.unfolding + [f"{kind}-{new} {L} ={b}", ""]
             continue
     # helpers and answers
     position = {}
