@@ -168,6 +168,15 @@ class Conv:
         if own[0] and norm(f).lower() == own[0].lower():
             if rest[:1] == ["ensures"]:
                 rest = ["ensures"] + self.clause(rest[1:], self.names_of(self.callee[place], "ensures"))
+            if rest[:1] == ["new"] and rest[1:2] in (["0"], ["1"]):
+                k = 1
+                while k < len(rest) and rest[k] == "1":
+                    k += 1
+                names = self.e["params"].get(self.callee[place] or "", [])
+                if k < len(rest) and rest[k] == "0" and k - 1 < len(names):
+                    rest = ["new", names[k - 1]] + rest[k + 1:]
+                else:
+                    self.warn.append("new of " + str(self.callee[place]))
             return var + "." + ".".join([own[1]] + rest)
         return None
 
@@ -238,6 +247,9 @@ class Conv:
         # a call's step is a record of its own today, so what it gives is cited by its fields
         text = re.sub(r"\bcame (w\d+) ([A-Za-z][\w'₀-₉.«»-]*)", r"via \1 \2.result \2.type_inv", text)
         text = re.sub(r"\bfits_came (w\d+) ([A-Za-z][\w'₀-₉.«»-]*)", r"fits_by \1 \2.result \2.type_inv", text)
+        text = re.sub(r"\b(to_z w\d+ c\.loop-[\w'«»-]+\.(?!invariant)[\w'«»-]+)", r"\1-bits", text)
+        # a test of `!x` says of x itself what it says
+        text = re.sub(r"\bnot-(true|false) (\((?:[^()]|\([^()]*\))*\)|\S+) (c\.if-not[\w'.«»-]*\.(?:true|false))", r"\3", text)
         return text
 
 
@@ -268,6 +280,30 @@ def contracts_of(root):
                     if fn:
                         out[fn][m.group(1)].append(m.group(2))
     return out
+
+
+def shadowed(text, names):
+    """Marks what a λ binds under a name that is also a variable of the loop."""
+    at = 0
+    while True:
+        m = re.compile(r"λ ([^.λ]*)\. ").search(text, at)
+        if not m:
+            return text
+        bound = [w for w in re.findall(r"[A-Za-z_][\w']*", re.sub(r":[^)]*", "", m.group(1))) if w in names]
+        depth, k = 0, m.start()
+        while k < len(text):
+            if text[k] in OPEN:
+                depth += 1
+            if text[k] in CLOSE:
+                depth -= 1
+                if depth < 0:
+                    break
+            k += 1
+        scope = text[m.start():k]
+        for w in bound:
+            scope = re.sub(rf"(?<![\w.]){w}(?![\w§'-])", w + "§", scope)
+        text = text[: m.start()] + scope + text[k:]
+        at = m.start() + 2
 
 
 def joins(text, entry, goal_types):
@@ -420,8 +456,8 @@ def turn(path, entry, clauses, crate, modpath, out):
                     return sub[mm.group(1)] + mm.group(2)
                 return mm.group(0)
 
-            pat = re.compile(r"(?<![\w'₀-₉.◌-])([A-Za-zκ_«][\w'₀-₉»-]*)((?:\.[\w'₀-₉«»-]+)*)(?![\w'₀-₉◌])")
-            b = pat.sub(s, b)
+            pat = re.compile(r"(?<![\w'₀-₉.◌-])([A-Za-zκ_«][\w'₀-₉»-]*)((?:\.[\w'₀-₉«»-]+)*)(?![\w'₀-₉◌§])")
+            b = pat.sub(s, shadowed(b, sub)).replace("§", "")
             # a signed variable is a number in an invariant of today
             b = re.sub(rf"\(to_z w\d+ ({L}\.[\w.«»-]+)\)", r"\1", b)
             b = re.sub(rf"\bto_z w\d+ ({L}\.[\w.«»-]+)", r"\1", b)
@@ -472,7 +508,7 @@ def turn(path, entry, clauses, crate, modpath, out):
         if d.name in position:
             if len(d.clauses) != 1:
                 raise ValueError(f"{d.name} has {len(d.clauses)} clauses")
-            m = re.match(r"(\S+) c(?: κs)?( i)? =(.*)$", d.clauses[0], re.S)
+            m = re.match(r"(\S+) c(?: κs)?((?: \w+)*) =(.*)$", d.clauses[0], re.S)
             if not m:
                 m0 = re.match(r"(\S+) =(.*)$", d.clauses[0], re.S)
                 raise ValueError(f"{d.name}: {d.clauses[0][:60]}")
