@@ -30,7 +30,7 @@ bounded c = omega (arith, c.size_sum.ensures, c.if-size_sum-gt61439.false)
 
 pub first_of_two-s-requires : goal.first_of_two-s-requires
 first_of_two-s-requires c =
-    (c.pairs-b.ensures, (bounded c.before.before.before.before.before.before.before.before, (c.loop-i.invariant.1.1, search rules)))
+    record { b_value = c.pairs-b.ensures; a_bound = bounded c.before.before.before.before.before.before.before; newest_value = c.loop-i.invariant.1.1; n_le_speech_length = search rules; le_n = search rules }
 
 -- the sum of the second sample, read back
 kept_sum : (c : After-first_of_two-s) → to_z w64 (of_z w64 c.first_of_two-s.result.sum) ≡ c.first_of_two-s.result.sum
@@ -56,41 +56,31 @@ next_start s i h = omega arith
 one_more : (i n : ℕ) → i < n → i + 1 ≤ n
 one_more i n h = omega arith
 
-abbrev head : tie.After-struct-told2 invariant_loop decreases_loop → tie.AtLoop invariant_loop decreases_loop
-head c = c.before.before.before.before.before.before.before.before.before
-
-abbrev entry : tie.AtLoop invariant_loop decreases_loop → tie.Start invariant_loop decreases_loop
-entry l = l.before.before.before.before.before.before.before
-
 -- the places of the first of the two, and the speech when it is written
-abbrev source : tie.AtLoop invariant_loop decreases_loop → ℕ
-source l = l.before.before.before.before.before.before.exc_start.result + (l.loop.i + l.loop.i)
+abbrev source : After-struct_told-in-loop-i-1 → ℕ
+source c = c.exc_start-from.result + (c.loop-i.i + c.loop-i.i)
 
-abbrev place : tie.AtLoop invariant_loop decreases_loop → ℕ
-place l = l.before.before.before.before.before.speech_start.result + (l.loop.i + l.loop.i)
+abbrev place : After-struct_told-in-loop-i-1 → ℕ
+place c = c.speech_start-start.result + (c.loop-i.i + c.loop-i.i)
 
-abbrev written : tie.After-struct-told2 invariant_loop decreases_loop → List ℤ
-written c = set (head c).loop.speech (place (head c)) (to_z w16 (of_z w16 c.before.before.before.first_of_two.result.word))
+abbrev written : After-struct_told-in-loop-i-1 → List ℤ
+written c = set c.loop-i.speech (place c) (to_z w16 (of_z w16 c.first_of_two-s.result.word))
 
-once : (c : After-struct_told-in-loop-i-1)
-    → Reached (entry (head c)).args.second (entry (head c)).args.a.now (entry (head c)).args.exc.now (entry (head c)).args.speech.now (written c) false ((head c).loop.i + (head c).loop.i + 1)
+once : (c : After-struct_told-in-loop-i-1) → Reached c.args.second c.args.a.now c.args.exc.now c.args.speech.now (written c) false (c.loop-i.i + c.loop-i.i + 1)
 once c =
-    let l = head c in
-    let p = l.before.before.before.before.before in
-    let n = l.loop.i + l.loop.i in
-    reached_turn _ _ _ _ n p.before.exc_start.ensures.0 p.speech_start.ensures.0 refl refl (via w16 _ c.first_of_two-arg-1.given) l.loop.inv.1.0 (via w16 _ c.struct_told-1.given.0.1) (c.first_of_two-s.ensures.sampled c.if-s.false)
+    let n = c.loop-i.i + c.loop-i.i in
+    reached_turn _ _ _ _ n c.exc_start-from.ensures.value c.speech_start-start.ensures.value refl refl (via w16 _ c.first_of_two-arg-1.given) c.loop-i.invariant.1.0 (via w16 _ c.struct_told-1.given.0.1) (c.first_of_two-s.ensures.sampled c.if-s.false)
 
 -- the second of the two
 next_sampled : (c : Else-t)
-    → Sampled (entry (head c.before.before.before)).args.a.now (to_z w16 (of_z w16 (at (entry (head c.before.before.before)).args.exc.now (source (head c.before.before.before) + 1)))) (written c.before.before.before) (place (head c.before.before.before) + 1) c.second_of_two-t.result.word
+    → Sampled c.args.a.now (to_z w16 (of_z w16 (at c.args.exc.now (source c.before.before.before + 1)))) (written c.before.before.before) (place c.before.before.before + 1) c.second_of_two-t.result.word
 next_sampled c =
-    let l = head c.before.before.before in
-    let s = entry l in
-    let x = at s.args.exc.now (source l + 1) in
+    let t = c.before.before.before in
+    let x = at c.args.exc.now (source t + 1) in
     let u = c.first_of_two-arg-in-loop-i-1.given in
     let v = c.second_of_two-arg-1.given in
     let q = c.first_of_two-s.ensures in
-    sampled_next s.args.a.now (to_z w16 (of_z w16 x)) l.loop.speech (place l) _ (next_start _ l.loop.i l.before.before.before.before.before.speech_start.ensures.1.1) (bounded l.before.before.before) (rw (via w16 x u) (nat_abs-le x u)) q.1.1.1 (nat_abs-le (at (written c.before.before.before) (place l)) v) _ _ _ _ (kept_sum c.before.before.before.before.before.before) q.1.0 (via w16 (at (written c.before.before.before) (place l)) v) (c.second_of_two-t.ensures c.if-t.false)
+    sampled_next c.args.a.now (to_z w16 (of_z w16 x)) c.loop-i.speech (place t) _ (next_start _ c.loop-i.i c.speech_start-start.ensures.lower_bound) (bounded c.before.before.before.before.before.before.before.before.before.before.before.before.before.before) (rw (via w16 x u) (nat_abs-le x u)) q.past (nat_abs-le (at (written t) (place t)) v) _ _ _ _ (kept_sum t.before.before.before) q.sum_value (via w16 (at (written t) (place t)) v) (c.second_of_two-t.ensures c.if-t.false)
 
 pub returns-then-s : goal.returns-then-s
 returns-then-s c =
@@ -102,13 +92,13 @@ returns-then-t c = record { upper_bound = search rules; reached = once c.before.
 
 pub loop-i-preserved : goal.loop-i-preserved
 loop-i-preserved c =
-    let l = head c.before.before.before.before.before in
-    let i = l.loop.i in
-    let p = l.before.before.before.before.before in (
+    let e = c.before.before in
+    let t = e.before.before.before in
+    let i = c.loop-i.i in (
       one_more i 20 c.loop-i-test.true,
       (
-        rw (twice i) (reached_turn _ _ _ _ (i + i + 1) p.before.exc_start.ensures.0 p.speech_start.ensures.0 (beyond _ i) (beyond _ i) (via w16 _ c.first_of_two-arg-in-loop-i-1.given) (once c.before.before.before.before.before) (via w16 _ c.struct_told-in-loop-i-2-1.given.0.1) (next_sampled c.before.before)),
-        rw (last p.speech_start.result i) (via w16 _ c.newest-in-loop-i-1.given),
+        rw (twice i) (reached_turn _ _ _ _ (i + i + 1) c.exc_start-from.ensures.value c.speech_start-start.ensures.value (beyond _ i) (beyond _ i) (via w16 _ c.first_of_two-arg-in-loop-i-1.given) (once t) (via w16 _ c.struct_told-in-loop-i-2-1.given.0.1) (next_sampled e)),
+        rw (last c.speech_start-start.result i) (via w16 _ c.newest-in-loop-i-1.given),
       ),
     )
 
@@ -119,75 +109,3 @@ returns c =
 
 pub returns-then-size_sum-gt61439 : goal.returns-then-size_sum-gt61439
 returns-then-size_sum-gt61439 c = record { upper_bound = search rules; reached = reached_none _ _ _ _ }
-
-pub overflow_sub-newest : goal.overflow_sub-newest
-overflow_sub-newest c = omega arith
-
-pub offset_bounds-speech-start : goal.offset_bounds-speech-start
-offset_bounds-speech-start c = omega arith
-
-pub bounds-speech-start : goal.bounds-speech-start
-bounds-speech-start c = omega arith
-
-pub overflow_add-n : goal.overflow_add-n
-overflow_add-n c = omega arith
-
-pub overflow_add-k : goal.overflow_add-k
-overflow_add-k c = omega arith
-
-pub overflow_add-m : goal.overflow_add-m
-overflow_add-m c = omega arith
-
-pub offset_bounds-exc-m : goal.offset_bounds-exc-m
-offset_bounds-exc-m c = omega arith
-
-pub bounds-exc-m : goal.bounds-exc-m
-bounds-exc-m c = omega arith
-
-pub overflow_add-m-in-loop-i : goal.overflow_add-m-in-loop-i
-overflow_add-m-in-loop-i c = omega arith
-
-pub offset_bounds-exc-m-in-loop-i : goal.offset_bounds-exc-m-in-loop-i
-offset_bounds-exc-m-in-loop-i c = omega arith
-
-pub bounds-exc-m-in-loop-i : goal.bounds-exc-m-in-loop-i
-bounds-exc-m-in-loop-i c = omega arith
-
-pub offset_bounds-speech-k : goal.offset_bounds-speech-k
-offset_bounds-speech-k c = omega arith
-
-pub bounds-speech-k : goal.bounds-speech-k
-bounds-speech-k c = omega arith
-
-pub offset_bounds-speech-k-in-loop-i : goal.offset_bounds-speech-k-in-loop-i
-offset_bounds-speech-k-in-loop-i c = omega arith
-
-pub bounds-speech-k-in-loop-i : goal.bounds-speech-k-in-loop-i
-bounds-speech-k-in-loop-i c = omega arith
-
-pub overflow_add-result : goal.overflow_add-result
-overflow_add-result c = omega arith
-
-pub overflow_add-next : goal.overflow_add-next
-overflow_add-next c = omega arith
-
-pub offset_bounds-speech-k-in-loop-i-2 : goal.offset_bounds-speech-k-in-loop-i-2
-offset_bounds-speech-k-in-loop-i-2 c = omega arith
-
-pub bounds-speech-k-in-loop-i-2 : goal.bounds-speech-k-in-loop-i-2
-bounds-speech-k-in-loop-i-2 c = omega arith
-
-pub overflow_add-newest : goal.overflow_add-newest
-overflow_add-newest c = omega arith
-
-pub offset_bounds-speech-k-in-loop-i-3 : goal.offset_bounds-speech-k-in-loop-i-3
-offset_bounds-speech-k-in-loop-i-3 c = omega arith
-
-pub bounds-speech-k-in-loop-i-3 : goal.bounds-speech-k-in-loop-i-3
-bounds-speech-k-in-loop-i-3 c = omega arith
-
-pub overflow_step-i : goal.overflow_step-i
-overflow_step-i c = omega arith
-
-pub loop-i-smaller : goal.loop-i-smaller
-loop-i-smaller c = omega arith
