@@ -3,11 +3,7 @@ use Rattle.agreement.proofs.Runs.{demand_2, accepted_after, any_output}
 use Rattle.agreement.proofs.Witness.{demand_3, parity_needed}
 use Rattle.agreement.proofs.GapClaims.{gap_is, beside_gap}
 use Rattle.agreement.proofs.Values.{values}
-use Rattle.agreement.proofs.claims.Statement.{statement}
-use Rattle.agreement.proofs.claims.Tie as tie
+use Rattle.agreement.proofs.claims.Goals as goal
 
-returns : tie.Need-returns
+pub returns : goal.returns
 returns c = record { demand_2 = demand_2; demand_3 = demand_3; parity_needed = parity_needed; accepted_after = accepted_after; any_output = any_output; gap = gap_is; beside_gap = beside_gap; values = values }
-
-pub claims_spec : {M : Type 1} → statement M
-claims_spec = tie.close (tie.spec returns)
