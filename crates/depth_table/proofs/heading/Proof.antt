@@ -1,0 +1,24 @@
+-- `depth_table::heading` meets its contract.
+use native.Mathlib.Omega.{arith}
+use borrow.Author.Rules.{rules}
+use Rattle.text.specs.Laws.{then}
+use Rattle.print.specs.Laws.{front}
+use Rattle.depth_table.specs.Table.{heading}
+use Rattle.depth_table.proofs.heading.Statement.{statement}
+use Rattle.depth_table.proofs.heading.Tie as tie
+
+returns : tie.Need-returns
+unfolding heading
+returns c =
+    let k = c.before.before.before in
+    let g = k.before.before.before in
+    let f = g.before.before.before in (
+      omega (arith, f.figure.ensures.0, g.figure2.ensures.0, k.figure3.ensures.0, c.put.ensures.place),
+      front (then (then (then f.figure.ensures.1 g.figure2.ensures.1) k.figure3.ensures.1) c.put.ensures),
+    )
+
+pub heading_spec : {M : Type 1} → statement M
+heading_spec =
+    tie.close
+    (tie.spec (λ c. search rules) (λ c κs. search rules) (λ c. search rules) (λ c κs. search rules) (λ c. search rules) (λ c κs. search rules)
+    (λ c. search rules) (λ c κs. search rules) returns)
