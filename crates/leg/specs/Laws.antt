@@ -4,10 +4,10 @@ use Rattle.std.proofs.Common.{ap, ◌∙◌, arith, length-append, length-take, 
 use Rattle.std.specs.Prelude.{Bool, cond, ℕ, ◌-◌, ◌≤◌, eqb, ℤ}
 use Rattle.std.proofs.Math.Bool.{true, false}
 use mathlib.Core.List.{List, [], ◌∷◌, ◌++◌, map}
-use Rattle.std.proofs.Math.ListN.{length, take, drop, take-append-drop}
+use Rattle.std.proofs.Math.ListN.{length, take, drop}
 use Rattle.std.proofs.lemmas.List.{length-map}
 use Rattle.std.proofs.Math.Seq.{take_all}
-use borrow.Author.Tests.{eq-eqb, ne_eqb, eqb-false}
+use borrow.Author.Tests.{eq-eqb, ne_eqb}
 use Rattle.print.specs.Print.{frame_room, over}
 use Rattle.g711.specs.G711.{known, value, byte_of, all_values, read, written, refusal, read_call, write_call}
 use Rattle.pcm_line.specs.PcmLine.{pcm_line, samples}
@@ -59,7 +59,7 @@ module _ (law : ℕ) (l : List ℕ) (h : length l ≤ 80) (lent : List ℤ) (k :
       by false f = let z = by_law false f in let y : ◌≡◌ {A = ℕ} 16 0 = cc in absurd (omega arith)
 
   module _ (c : code ≡ 0) (rest : List ℤ) where
-    many : length v ≡ length l
+    pub many : length v ≡ length l
     many = ap length (values c).1 ∙ length-map l (value law)
 
     -- the samples read are at the front of a longer list
@@ -73,40 +73,14 @@ module _ (law : ℕ) (l : List ℕ) (h : length l ≤ 80) (lent : List ℤ) (k :
         let w = values c in
         rw (ne_eqb (length l) 0 n, w.0, ← w.1) (rw (take_at v rest (length l - 0) (omega (arith, many)), take_all 80 v (omega (arith, many))) at p)
 
--- ---- a line to bytes
-
--- samples of which some are no table values are some
-some : (law : ℕ) (l : List ℤ) → all_values law l ≡ false → length l ≡ 0 → ⊥
-unfolding all_values
-some law [] g n = let z : ◌≡◌ {A = ℕ} 0 1 = cc in omega arith
-some law (z ∷ l) g n = omega arith
-
 -- as many bytes as samples are lent to `g711::write`, those at the front
 module _ (law : ℕ) (lent : List ℕ) (l : List ℤ) (h : length l ≤ length lent) {code : ℕ} {v : List ℕ} (e : written code v ≡ write_call law l (take (length l) lent)) where
-  by_values : (p q : Bool) → known law ≡ p → all_values law l ≡ q
+  pub by_values : (p q : Bool) → known law ≡ p → all_values law l ≡ q
       → written code v ≡ cond p (cond q (written 0 (map (byte_of law) l)) (written 17 (take (length l) lent))) (written 16 (take (length l) lent))
   unfolding write_call refusal
   by_values true true f g = rw (f, g, eq-eqb (length (take (length l) lent)) (length l) (length-take-le (length l) lent h)) at e
   by_values true false f g = rw (f, g, eq-eqb (length (take (length l) lent)) (length l) (length-take-le (length l) lent h)) at e
   by_values false q f g = rw f at e
-
-  -- it refused
-  pub told : (code ≡ 0 → ⊥) → answer code 0 (v ++ drop (length l) lent) ≡ back_to law l lent
-  unfolding back_to
-  told c = by (known law) (all_values law l) refl refl
-    where
-      by : (p q : Bool) → known law ≡ p → all_values law l ≡ q → answer code 0 (v ++ drop (length l) lent) ≡ back_to law l lent
-      by true true f g = let z = by_values true true f g in absurd (c (cc))
-      by true false f g =
-          let z = by_values true false f g in
-          let x : code ≡ 17 = cc in
-          let y : v ≡ take (length l) lent = cc in
-          rw (x, y, take-append-drop (length l) lent, f, g, ne_eqb (length l) 0 (some law l g))
-      by false q f g =
-          let z = by_values false q f g in
-          let x : code ≡ 16 = cc in
-          let y : v ≡ take (length l) lent = cc in
-          rw (x, y, take-append-drop (length l) lent, f)
 
   -- it wrote: the law is known and every sample is a table value
   wrote : code ≡ 0 → (known law ≡ true) × (all_values law l ≡ true) × (v ≡ map (byte_of law) l)
@@ -144,18 +118,6 @@ pub record Took (law : ℕ) (l : List ℤ) (lent : List ℕ) (n : ℕ) (left : L
   pub many : n ≡ length l
   pub bytes : left ≡ map (byte_of law) l ++ drop (length l) lent
 
-pub took : (law : ℕ) (l : List ℤ) (lent left : List ℕ) (n : ℕ) → answer 0 n left ≡ back_to law l lent → Took law l lent n left
-unfolding back_to
-took law l lent left n = by (known law) (eqb (length l) 0) (all_values law l) refl refl refl
-  where
-    by : (p q r : Bool) → known law ≡ p → eqb (length l) 0 ≡ q → all_values law l ≡ r
-        → answer 0 n left ≡ cond p (cond q (answer 9 0 lent) (cond r (answer 0 (length l) (map (byte_of law) l ++ drop (length l) lent)) (answer 17 0 lent))) (answer 16 0 lent)
-        → Took law l lent n left
-    by true false true f g v e = record { known_law = f; some_samples = eqb-false (length l) 0 g; table_values = v; many = cc; bytes = cc }
-    by true false false f g v e = let z : ◌≡◌ {A = ℕ} 0 17 = cc in absurd (omega arith)
-    by true true r f g v e = let z : ◌≡◌ {A = ℕ} 0 9 = cc in absurd (omega arith)
-    by false q r f g v e = let z : ◌≡◌ {A = ℕ} 0 16 = cc in absurd (omega arith)
-
 -- ---- the same of the samples that `pcm_line::read` found
 
 -- they are at most 80, and have room where they were written
@@ -168,18 +130,14 @@ module _ (t : List ℕ) (lent : List ℤ) {n : ℕ} {found : List ℤ} (f : PcmL
 
 module _ (law : ℕ) (t lent : List ℕ) (zeros : List ℤ) {n : ℕ} {found : List ℤ} (f : PcmLine.answer n found ≡ PcmLine.read t zeros) (h : n ≤ length lent) {code : ℕ} {v : List ℕ}
     (e : written code v ≡ write_call law (take (n - 0) found) (take (n - 0) lent)) where
-  as_many : n - 0 ≡ length (samples t)
+  pub as_many : n - 0 ≡ length (samples t)
   as_many = omega (arith, read_many t zeros f)
 
-  given : written code v ≡ write_call law (samples t) (take (length (samples t)) lent)
+  pub given : written code v ≡ write_call law (samples t) (take (length (samples t)) lent)
   given =
       let m : n - 0 ≡ n = omega arith in
       let g : take (n - 0) found ≡ samples t = rw m (read_front t zeros f) in
       rw (g, as_many) at e
-
-  pub bytes_told : (code ≡ 0 → ⊥) → answer code 0 (v ++ drop (n - 0) lent) ≡ bytes_of law t lent
-  unfolding bytes_of
-  bytes_told c = rw as_many (told law lent (samples t) (omega (arith, as_many)) given c)
 
   pub bytes_none : code ≡ 0 → n ≡ 0 → answer 9 0 (v ++ drop (n - 0) lent) ≡ bytes_of law t lent
   unfolding bytes_of

@@ -2,10 +2,8 @@
 pub mod Frames
 pub mod Recovery
 pub mod States
-pub mod Runs
 pub mod Sound
 pub mod Faults
 pub mod SlotLaws
 pub mod Steps
 pub mod Memory
-pub mod SoundProof

@@ -13,7 +13,8 @@ use Rattle.rule.specs.declared.Rule.TheVariants.{Thirds, Whole, Relative, BadPar
 use Rattle.rule.specs.declared.Report.{Report}
 use Rattle.rule.specs.Rule.{number, of_number, delays, report}
 use Rattle.delay_line.specs.DelayLine.{thirds}
-use Rattle.delay_line.specs.Undo.{numbers, row_back, of_thirds, thirds_tell}
+use Rattle.delay_line.specs.Undo.{numbers, row_back, of_thirds}
+use Rattle.delay_line.proofs.Undo.{thirds_tell}
 use Rattle.delay_step.specs.Step.{report_row}
 
 -- ---- the numbers of the rules are told apart

@@ -33,7 +33,7 @@ use Rattle.job.specs.declared.Found.TheVariants.{Refused, Job}
 use Rattle.job.specs.Job.{start, pack, fits, answer, read}
 use Rattle.job.specs.Part.{progress, going, after, taken, part}
 use Rattle.job.specs.Part as Part
-use Rattle.whole_job.specs.Back.{InBounds, small, pack_read, pack_other}
+use Rattle.whole_job.specs.Back.{InBounds, small, pack_other}
 use Rattle.whole_job.specs.Fits.{CanBeSaved, AfterPart, Fits, part_able, part_fits, part_accepted, part_unused}
 use Rattle.whole_job.specs.Shown.{Shown, shown_part}
 
@@ -90,14 +90,11 @@ good_both file text all b p out good = fits_both p.counts (small p good.able).co
 -- a job that goes through a state file: with the same tables it is the job that was saved, with tables of another CRC-32 it is refused
 module _ (file text all : List ℕ) (b : List ℤ) (p : Saved) (out : List ℕ) (good : Good file text all b p out)
     (a : Bytes file) (c : Bytes text) (n : length b ≡ 234) (w : (k : ℕ) → mag (at b k) < 32768) (lent : List ℤ) where
-  has_sum : p.tables < 2 ^ 32
+  pub has_sum : p.tables < 2 ^ 32
   has_sum = rw good.of_tables (crc32_lt file a)
 
-  has_call : p.call < 2 ^ 32
+  pub has_call : p.call < 2 ^ 32
   has_call = rw good.of_call (crc32_lt (take p.at text) (bytes_take p.at text c))
-
-  pub good_file : read (pack b p) (crc32 file) lent ≡ answer (Job p) b
-  good_file = ap (λ (s : ℕ). read (pack b p) s lent) (sym good.of_tables) ∙ pack_read b p n w good.able has_sum has_call lent good.accepted
 
   pub good_other : (other : List ℕ) → crc32 file ≢ crc32 other → read (pack b p) (crc32 other) lent ≡ answer (Refused 23) lent
   good_other other h = pack_other b p n w good.able has_sum has_call (crc32 other) lent (λ e. h (sym good.of_tables ∙ e))

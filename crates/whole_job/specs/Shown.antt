@@ -41,14 +41,19 @@ decode_tail t d s =
     let v = parameters t d s.params in
     sym (drop-drop (frame_length - tail_length) tail_length (frame_signal t v.first v.second s.signal).speech)
 
+end_of_frame : (t b : List ℤ) (kind : ℕ) (payload : List ℕ) (out : List ℤ)
+    → let r : Frame.Answer = Frame.frame t b kind payload out in
+    Frame.number r ≡ 0 → drop tail_place (Frame.block r) ≡ drop (frame_length - tail_length) (Frame.output r)
+end_of_frame t b kind payload out e =
+    let d : Decision = decide kind payload in
+    let f = frame_done t b kind payload out e in
+    rw (f.0, f.1) (write_tail (decode t d (read b)).state (sized_after t (read b) (read_sized b) d) ∙ decode_tail t d (read b))
+
 -- the state block that a frame leaves ends in the frame's last ten samples
 pub frame_tail : (t b : List ℤ) (kind : ℕ) (payload : List ℕ) (out : List ℤ)
     → let a : Frame.Answer = Frame.frame t b kind payload out in
     Frame.number a ≡ 0 → drop tail_place (Frame.block a) ≡ drop (frame_length - tail_length) (Frame.output a)
-frame_tail t b kind payload out e =
-    let d : Decision = decide kind payload in
-    let f = frame_done t b kind payload out e in
-    rw (f.0, f.1) (write_tail (decode t d (read b)).state (sized_after t (read b) (read_sized b) d) ∙ decode_tail t d (read b))
+frame_tail t b kind payload out e = end_of_frame t b kind payload out e
 
 -- ---- a line
 
@@ -70,7 +75,7 @@ unfolding done Shown last_printed
 shown_done l t job next kind payload e h =
     let o : List ℤ = Frame.output (Frame.frame t job.block kind payload (replicate 80 (pos 0))) in
     let n : length (l ++ pcm o) - 42 ≡ length l + 285 = rw (length-append l (pcm o)) (omega (arith, length_pcm o)) in
-    rw (n, drop-append-add l (pcm o) 285, pcm_end o, frame_tail t job.block kind payload (replicate 80 (pos 0)) e)
+    rw (n, drop-append-add l (pcm o) 285, pcm_end o, end_of_frame t job.block kind payload (replicate 80 (pos 0)) e)
 
 pub shown_line : (l : List ℕ) (t : List ℤ) (job : Job) (held : List ℕ) → Shown job.block l → Next l (line_step t job held)
 shown_line l t job held h =

@@ -1,0 +1,2 @@
+-- Theorems that rest on how a delay is told in thirds.
+pub mod Undo

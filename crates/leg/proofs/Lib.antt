@@ -1,0 +1,3 @@
+-- Theorems that rest on what a refusal leaves.
+pub mod Laws
+pub mod Undo

@@ -1,0 +1,3 @@
+-- Theorems that rest on which texts are lines of samples.
+pub mod Laws
+pub mod Undo

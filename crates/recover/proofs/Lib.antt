@@ -1,0 +1,3 @@
+-- What specs/Recovery.antt, specs/Sound.antt and specs/Faults.antt claim, proved.
+pub mod Runs
+pub mod SoundProof

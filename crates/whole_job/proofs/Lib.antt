@@ -1,0 +1,2 @@
+-- Theorems that rest on what a state file gives back.
+pub mod Resume
