@@ -1,0 +1,2 @@
+-- What specs/Writing.antt claims, proved.
+pub mod Undo
