@@ -96,7 +96,7 @@ def parse(text):
             uses.append(l)
         elif l.startswith("unfolding "):
             cur.unfolding.append(l)
-        elif l[0].isspace():
+        elif l[0].isspace() or l[0] in CLOSE:
             if not cur.clauses:
                 cur.type += "\n" + l
             else:
@@ -129,6 +129,11 @@ class Conv:
             self.field[norm(p[0])] = (norm(p[2][0]), p[2][1])
             self.callee[norm(p[0])] = p[3]
             self.newplace[norm(p[0])] = n
+        self.arm = {norm(p[0]): a for p, a in zip(entry["places"], entry["arms"]) if a}
+        self.argmap = {}
+        for old, new in entry["args"]:
+            o, n = old.replace(" ", "").strip("."), new.replace(" ", "").strip(".")
+            self.argmap[tuple(norm(x) for x in o.split("."))] = n.split(".")
         self.warn = []
 
     def names_of(self, callee, kind):
@@ -160,8 +165,17 @@ class Conv:
         if place is None:
             self.warn.append("no place " + ".".join(parts))
             return place, var + "." + ".".join(parts)
+        for k, n in self.argmap.items():
+            if tuple(norm(x) for x in parts[: len(k)]) == k:
+                parts = n + parts[len(k):]
+                break
         f = parts[0]
         rest = parts[1:]
+        if place in self.arm:
+            name, _, facts = self.arm[place]
+            for new, step, was in facts:
+                if norm(f) == norm(step) and [norm(x) for x in rest[: len(was)]] == [norm(x) for x in was]:
+                    return place, var + "." + ".".join([name, new] + rest[len(was):])
         own = self.field.get(place, ("", ""))
         if norm(f) == own[0] or norm(f).lower() == own[0].lower():
             if rest[:1] == ["ensures"]:
@@ -171,7 +185,7 @@ class Conv:
             rest = self.clause(rest, self.names_of(self.crate + "::" + self.fn, "requires"))
         if f in ("well-formed", "well_formed"):
             f = "well_formed"
-        elif f not in ("args", "requires", "ranges", "lifetimes", "type_inv", "loop", "measure"):
+        elif not f.startswith(("told", "fits-")) and f not in ("args", "requires", "ranges", "lifetimes", "type_inv", "loop", "measure"):
             # a field of an ancestor that the old record had here too
             up = place
             while up is not None:
@@ -215,7 +229,11 @@ class Conv:
                 return f"(goal.at.{need} c).{name}"
             return out
 
-        return PATH.sub(sub, text)
+        text = PATH.sub(sub, text)
+        # a call's step is a record of its own today, so what it gives is cited by its fields
+        text = re.sub(r"\bcame (w\d+) (c\.[\w'₀-₉.«»-]+)", r"via \1 \2.result \2.type_inv", text)
+        text = re.sub(r"\bfits_came (w\d+) (c\.[\w'₀-₉.«»-]+)", r"record { sfits = \2.type_inv }", text)
+        return text
 
 
 def contracts_of(root):
@@ -311,6 +329,7 @@ def turn(path, entry, clauses, crate, modpath, out):
     given, answers = args[:ninv], args[ninv:]
     if len(answers) != len(needs):
         raise ValueError(f"{len(answers)} answers for {len(needs)} goals: {[n[1] for n in needs]}")
+    uses = [re.sub(r"\bcame\b", "came, via", u) if "Back.{" in u and "via" not in u else u for u in uses]
     base = [u for u in uses if not re.search(r"\.(Statement|Tie)\b", u) and "borrow.Author.Rules" not in u]
     rules = "use Rattle.std.proofs.Common.{rules}"
     dotted = ".".join(modpath)
@@ -415,7 +434,7 @@ def turn(path, entry, clauses, crate, modpath, out):
             continue
         if b.strip() == "search rules":
             continue
-        ans_lines += answer(i, " " + b, [], [])
+        ans_lines += answer(i, " " + b, spec.unfolding, [])
     folder = os.path.dirname(path)
     said = []
     if inv_lines:
