@@ -89,8 +89,8 @@ pub(crate) fn decoder<R: Print>(rt: &R, name: &[u8], concealed: u32, v: &[i16; L
     two(rt, b" delays ", v, values::DELAYS);
     one(rt, b", ", v, values::DELAYS, 2);
     one(rt, b" ", v, values::DELAYS, 3);
-    two(rt, b" pitch_gains ", v, values::PITCH_GAINS);
-    two(rt, b" fixed_gains ", v, values::FIXED_GAINS);
+    two(rt, b" pitch-gains ", v, values::PITCH_GAINS);
+    two(rt, b" fixed-gains ", v, values::FIXED_GAINS);
     summed(rt, b" frequencies ", v, values::FREQUENCIES, 10);
     summed(rt, b" filters ", v, values::FILTERS, 22);
     summed(rt, b" pulses ", v, values::PULSES, 80);
@@ -101,8 +101,8 @@ pub(crate) fn decoder<R: Print>(rt: &R, name: &[u8], concealed: u32, v: &[i16; L
 pub(crate) fn equal<R: Print>(rt: &R, a: &[i16; LENGTH], b: &[i16; LENGTH]) {
     text(rt, b"equal:");
     named(rt, b" delays", a, b, values::DELAYS, 4);
-    named(rt, b" pitch_gains", a, b, values::PITCH_GAINS, 2);
-    named(rt, b" fixed_gains", a, b, values::FIXED_GAINS, 2);
+    named(rt, b" pitch-gains", a, b, values::PITCH_GAINS, 2);
+    named(rt, b" fixed-gains", a, b, values::FIXED_GAINS, 2);
     named(rt, b" frequencies", a, b, values::FREQUENCIES, 10);
     named(rt, b" filters", a, b, values::FILTERS, 22);
     named(rt, b" seeds", a, b, values::SEED, 1);
