@@ -221,18 +221,16 @@ class Conv:
                 return m.group(0)
             p, out = self.path(alias[root], parts)
             if out is None:
-                if p == place and need is None:
-                    return "c"
-                name = self.newplace.get(p, "?")
-                if need is None:
-                    return f"(goal.at.{name} c)"
-                return f"(goal.at.{need} c).{name}"
+                up, q = "", place
+                while q != p and q is not None:
+                    q, up = self.parent.get(q), up + ".before"
+                return var + up
             return out
 
         text = PATH.sub(sub, text)
         # a call's step is a record of its own today, so what it gives is cited by its fields
         text = re.sub(r"\bcame (w\d+) (c\.[\w'₀-₉.«»-]+)", r"via \1 \2.result \2.type_inv", text)
-        text = re.sub(r"\bfits_came (w\d+) (c\.[\w'₀-₉.«»-]+)", r"record { sfits = \2.type_inv }", text)
+        text = re.sub(r"\bfits_came (w\d+) (c\.[\w'₀-₉.«»-]+)", r"fits_by \1 \2.result \2.type_inv", text)
         return text
 
 
@@ -330,6 +328,7 @@ def turn(path, entry, clauses, crate, modpath, out):
     if len(answers) != len(needs):
         raise ValueError(f"{len(answers)} answers for {len(needs)} goals: {[n[1] for n in needs]}")
     uses = [re.sub(r"\bcame\b", "came, via", u) if "Back.{" in u and "via" not in u else u for u in uses]
+    uses = [re.sub(r"\bfits_came\b", "fits_came, fits_by", u) if "Back.{" in u else u for u in uses]
     base = [u for u in uses if not re.search(r"\.(Statement|Tie)\b", u) and "borrow.Author.Rules" not in u]
     rules = "use Rattle.std.proofs.Common.{rules}"
     dotted = ".".join(modpath)
@@ -366,6 +365,9 @@ def turn(path, entry, clauses, crate, modpath, out):
 
             pat = re.compile(r"(?<![\w'₀-₉.◌-])([A-Za-zκ_«][\w'₀-₉»-]*)((?:\.[\w'₀-₉«»-]+)*)(?![\w'₀-₉◌])")
             b = pat.sub(s, b)
+            # a signed variable is a number in an invariant of today
+            b = re.sub(r"\(to_z w\d+ (l\.[\w.«»-]+)\)", r"\1", b)
+            b = re.sub(r"\bto_z w\d+ (l\.[\w.«»-]+)", r"\1", b)
             inv_lines += d.comments + [f"abbrev pub {kind}-{new} : goal.{kind}-{new}"] + d.unfolding + [f"{kind}-{new} l ={b}", ""]
             continue
     # helpers and answers
@@ -374,6 +376,18 @@ def turn(path, entry, clauses, crate, modpath, out):
         if re.fullmatch(r"[\w'₀-₉-]+", a):
             position.setdefault(a, []).append(i)
     emitted = set()
+
+    def cited(text):
+        """An answer that another one cites, at its place."""
+
+        def sub(m):
+            n = m.group(1)
+            if n not in position:
+                return m.group(0)
+            new = needs[position[n][0]][1]
+            return new
+
+        return re.sub(r"(?<![\w'₀-₉.◌-])([A-Za-z][\w'₀-₉]*)(?![\w'₀-₉.-])(?= +c\b)", sub, text)
 
     def answer(i, body, unf, comments):
         old, new = needs[i]
@@ -391,6 +405,7 @@ def turn(path, entry, clauses, crate, modpath, out):
             names = conv.names_of(callee, "requires") if callee else None
         if names and len(names) > 1:
             b = tupled(b, names)
+        b = cited(b)
         sep = "" if b.startswith("\n") or b.startswith(" ") else " "
         return comments + [f"pub {new} : goal.{new}"] + unf + [f"{new} c ={sep}{b}", ""]
 
@@ -405,7 +420,8 @@ def turn(path, entry, clauses, crate, modpath, out):
                 m0 = re.match(r"(\S+) =(.*)$", d.clauses[0], re.S)
                 raise ValueError(f"{d.name}: {d.clauses[0][:60]}")
             for i in position[d.name]:
-                if m.group(2).strip() == "search rules" and not d.unfolding:
+                others = "\n".join("\n".join(x.clauses) for x in decls if x is not d)
+                if m.group(2).strip() == "search rules" and not d.unfolding and not re.search(r"\b" + re.escape(d.name) + r" +(?:c\b|k|\()", others):
                     continue
                 ans_lines += answer(i, m.group(2), d.unfolding, d.comments)
         else:
@@ -420,7 +436,7 @@ def turn(path, entry, clauses, crate, modpath, out):
                 rest = t[ms[0].end():]
                 t = t[: ms[0].start()] + f"({var} : {new})" + conv.expr(rest, place, None, var).replace("c.", var + ".") if var != "c" else t[: ms[0].start()] + f"({var} : {new})" + conv.expr(rest, place, None, var)
                 head_, eq, tail = cl.partition("=")
-                cl = head_ + eq + conv.expr(tail, place, None, var)
+                cl = head_ + eq + cited(conv.expr(tail, place, None, var))
             used_helpers.append(d.name)
             ans_lines += d.comments + [f"{d.head}{d.name}{getattr(d, 'extra', '')} : {t}"] + d.unfolding + [cl, ""]
     for i, a in enumerate(answers):

@@ -11,7 +11,7 @@ overflow_add-a c = fits_add w16 w16 w32 _ _ (still w32 tt c.ranges.a) (still w32
 
 pub returns : goal.returns
 unfolding add
-returns c = cc (via w16 c.sat16.result c.sat16.type_inv, wide w32 tt c.ranges.a, wide w32 tt c.ranges.b, to_z-of_z (whole (goal.at.returns c).Start))
+returns c = cc (via w16 c.sat16.result c.sat16.type_inv, wide w32 tt c.ranges.a, wide w32 tt c.ranges.b, to_z-of_z (overflow_add-a c.before))
 
 pub overflow_cast-a : goal.overflow_cast-a
 overflow_cast-a c = widens w32 tt c.ranges.a

@@ -26,14 +26,14 @@ shifted c =
     via w32 c.l_shl-m.result c.l_shl-m.type_inv ∙ c.l_shl-m.ensures ∙ rw (f, left c, ← (value c).norm) (value c).shifted
 
 pub overflow_cast-m : goal.overflow_cast-m
-overflow_cast-m c = (nonneg_of (shifted (goal.at.overflow_cast-m c).After-l_shl-m), rw (shifted (goal.at.overflow_cast-m c).After-l_shl-m) (record { fits = omega (arith, (value (goal.at.overflow_cast-m c).After-l_shl-m).high) }))
+overflow_cast-m c = (nonneg_of (shifted c), rw (shifted c) (record { fits = omega (arith, (value c).high) }))
 
 pub overflow_sub-result : goal.overflow_sub-result
-overflow_sub-result c = rw (left (goal.at.overflow_sub-result c).After-l_shl-m) (fits_less (value (goal.at.overflow_sub-result c).After-l_shl-m).left (value (goal.at.overflow_sub-result c).After-l_shl-m).few)
+overflow_sub-result c = rw (left c) (fits_less (value c).left (value c).few)
 
 pub log_fraction-requires : goal.log_fraction-requires
-log_fraction-requires c = rw (shifted (goal.at.log_fraction-requires c).After-l_shl-m) ((value (goal.at.log_fraction-requires c).After-l_shl-m).low, (value (goal.at.log_fraction-requires c).After-l_shl-m).high)
+log_fraction-requires c = rw (shifted c) ((value c).low, (value c).high)
 
 pub returns : goal.returns
 returns c =
-    rw (to_z-of_z (sub_t7 (goal.at.returns c).After-l_shl-m), left (goal.at.returns c).After-l_shl-m, via w16 c.log_fraction.result c.log_fraction.type_inv, c.log_fraction.ensures, shifted (goal.at.returns c).After-l_shl-m) (sym ((value (goal.at.returns c).After-l_shl-m).log _))
+    rw (to_z-of_z (overflow_sub-result c.before), left c.before, via w16 c.log_fraction.result c.log_fraction.type_inv, c.log_fraction.ensures, shifted c.before) (sym ((value c.before).log _))

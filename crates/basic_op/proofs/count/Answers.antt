@@ -12,8 +12,8 @@ overflow_sub-result c = fits_sub w16 w16 w32 (pos 0) _ (sfits_lit tt) (still w32
 
 pub overflow_cast-result-then-n-lt0 : goal.overflow_cast-result-then-n-lt0
 overflow_cast-result-then-n-lt0 c = (
-  nonneg_of (to_z-of_z (sub_result (goal.at.overflow_cast-result-then-n-lt0 c).Then-n-lt0) ∙ ap (λ (z : ℤ). pos 0 -ℤ z) (to_z-of_z (widens w32 tt c.ranges.n)) ∙ neg_part (to_z-of_z c.ranges.n) c.if-n-lt0.true),
-  Fits-nat_abs tt (keep w32 tt (sub_result (goal.at.overflow_cast-result-then-n-lt0 c).Then-n-lt0)),
+  nonneg_of (to_z-of_z (overflow_sub-result c) ∙ ap (λ (z : ℤ). pos 0 -ℤ z) (to_z-of_z (widens w32 tt c.ranges.n)) ∙ neg_part (to_z-of_z c.ranges.n) c.if-n-lt0.true),
+  Fits-nat_abs tt (keep w32 tt (overflow_sub-result c)),
 )
 
 pub overflow_cast-result-else-n-lt0 : goal.overflow_cast-result-else-n-lt0
@@ -21,7 +21,7 @@ overflow_cast-result-else-n-lt0 c = (nonneg_of (abs_part (to_z-of_z c.ranges.n) 
 
 pub returns-then-n-lt0 : goal.returns-then-n-lt0
 returns-then-n-lt0 c =
-    ap nat_abs (to_z-of_z (sub_result (goal.at.returns-then-n-lt0 c).Then-n-lt0) ∙ ap (λ (z : ℤ). pos 0 -ℤ z) (to_z-of_z (widens w32 tt c.ranges.n)) ∙ neg_part (to_z-of_z c.ranges.n) c.if-n-lt0.true)
+    ap nat_abs (to_z-of_z (overflow_sub-result c) ∙ ap (λ (z : ℤ). pos 0 -ℤ z) (to_z-of_z (widens w32 tt c.ranges.n)) ∙ neg_part (to_z-of_z c.ranges.n) c.if-n-lt0.true)
 
 pub overflow_cast-result : goal.overflow_cast-result
 overflow_cast-result c = widens w32 tt c.ranges.n

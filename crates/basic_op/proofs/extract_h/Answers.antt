@@ -12,4 +12,4 @@ overflow_cast-result c = rw (via w32 c.sar32.result c.sar32.type_inv, c.sar32.en
 
 pub returns : goal.returns
 unfolding extract_h
-returns c = to_z-of_z (cast_result (goal.at.returns c).After-sar32) ∙ via w32 c.sar32.result c.sar32.type_inv ∙ c.sar32.ensures ∙ rw (to_z-of_z c.ranges.x)
+returns c = to_z-of_z (overflow_cast-result c) ∙ via w32 c.sar32.result c.sar32.type_inv ∙ c.sar32.ensures ∙ rw (to_z-of_z c.ranges.x)

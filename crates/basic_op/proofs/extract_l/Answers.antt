@@ -10,7 +10,7 @@ overflow_sub-result c =
 
 pub overflow_cast-result : goal.overflow_cast-result
 overflow_cast-result c =
-    rw (to_z-of_z (sub_result (goal.at.overflow_cast-result c).Then-low-gt32767), low_neg c.args.x (low_and _ c.ranges.x) c.if-low-gt32767.true) (fits_extract_l c.args.x)
+    rw (to_z-of_z (overflow_sub-result c), low_neg c.args.x (low_and _ c.ranges.x) c.if-low-gt32767.true) (fits_extract_l c.args.x)
 
 pub overflow_cast-result-else-low-gt32767 : goal.overflow_cast-result-else-low-gt32767
 overflow_cast-result-else-low-gt32767 c =
@@ -18,8 +18,8 @@ overflow_cast-result-else-low-gt32767 c =
 
 pub returns-then-low-gt32767 : goal.returns-then-low-gt32767
 returns-then-low-gt32767 c =
-    to_z-of_z (cast_result (goal.at.returns-then-low-gt32767 c).Then-low-gt32767) ∙ to_z-of_z (sub_result (goal.at.returns-then-low-gt32767 c).Then-low-gt32767) ∙ low_neg c.args.x (low_and _ c.ranges.x) c.if-low-gt32767.true
+    to_z-of_z (overflow_cast-result c) ∙ to_z-of_z (overflow_sub-result c) ∙ low_neg c.args.x (low_and _ c.ranges.x) c.if-low-gt32767.true
 
 pub returns-else-low-gt32767 : goal.returns-else-low-gt32767
 returns-else-low-gt32767 c =
-    to_z-of_z (cast_result_2 (goal.at.returns-else-low-gt32767 c).Else-low-gt32767) ∙ low_pos c.args.x (low_and _ c.ranges.x) c.if-low-gt32767.false
+    to_z-of_z (overflow_cast-result-else-low-gt32767 c) ∙ low_pos c.args.x (low_and _ c.ranges.x) c.if-low-gt32767.false

@@ -11,7 +11,7 @@ overflow_add-a c = fits_add w32 w32 w64 _ _ (still w64 tt c.ranges.a) (still w64
 
 pub returns : goal.returns
 unfolding l_add
-returns c = cc (via w32 c.sat32.result c.sat32.type_inv, wide w64 tt c.ranges.a, wide w64 tt c.ranges.b, to_z-of_z (whole (goal.at.returns c).Start))
+returns c = cc (via w32 c.sat32.result c.sat32.type_inv, wide w64 tt c.ranges.a, wide w64 tt c.ranges.b, to_z-of_z (overflow_add-a c.before))
 
 pub overflow_cast-a : goal.overflow_cast-a
 overflow_cast-a c = widens w64 tt c.ranges.a

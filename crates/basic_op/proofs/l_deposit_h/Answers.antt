@@ -12,7 +12,7 @@ overflow_mul-result c = fits_scale w16 w32 _ 65536 (still w32 tt c.ranges.a) (li
 
 pub returns : goal.returns
 unfolding l_deposit_h
-returns c = cc (wide w32 tt c.ranges.a, to_z-of_z (whole (goal.at.returns c).Start))
+returns c = cc (wide w32 tt c.ranges.a, to_z-of_z (overflow_mul-result c))
 
 pub overflow_cast-result : goal.overflow_cast-result
 overflow_cast-result c = widens w32 tt c.ranges.a

@@ -16,7 +16,7 @@ overflow_mul-a-2 c = fits_mul w16 w32 w64 (pos 2) _ (sfits_lit tt) (keep w64 tt 
 pub returns : goal.returns
 unfolding l_mult_overflow
 returns c =
-    cc (wide w64 tt c.ranges.a, wide w64 tt c.ranges.b, to_z-of_z (single (goal.at.returns c).Start), to_z-of_z (double (goal.at.returns c).Start))
+    cc (wide w64 tt c.ranges.a, wide w64 tt c.ranges.b, to_z-of_z (overflow_mul-a c.before), to_z-of_z (overflow_mul-a-2 c.before))
 
 pub overflow_cast-a : goal.overflow_cast-a
 overflow_cast-a c = widens w64 tt c.ranges.a

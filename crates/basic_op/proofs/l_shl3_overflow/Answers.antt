@@ -12,7 +12,7 @@ overflow_mul-x c = fits_scale w32 w64 _ 8 (still w64 tt c.ranges.x) (lit< tt) (l
 
 pub returns : goal.returns
 unfolding l_shl3_overflow
-returns c = cc (wide w64 tt c.ranges.x, to_z-of_z (whole (goal.at.returns c).Start))
+returns c = cc (wide w64 tt c.ranges.x, to_z-of_z (overflow_mul-x c.before))
 
 pub overflow_cast-x : goal.overflow_cast-x
 overflow_cast-x c = widens w64 tt c.ranges.x

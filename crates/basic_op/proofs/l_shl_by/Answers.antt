@@ -14,13 +14,13 @@ overflow_mul-x c = fits_scale w32 w64 _ 4294967296 (still w64 tt c.ranges.x) (li
 
 pub returns-then-n-gt32 : goal.returns-then-n-gt32
 returns-then-n-gt32 c =
-    cc (via w32 c.sat32.result c.sat32.type_inv, wide w64 tt c.ranges.x, to_z-of_z (far (goal.at.returns-then-n-gt32 c).Then-n-gt32), sat_far 2147483647 c.args.x 4294967296 _ (lit< tt) (pow_mono {i = 32} {j = c.args.n} (omega arith)))
+    cc (via w32 c.sat32.result c.sat32.type_inv, wide w64 tt c.ranges.x, to_z-of_z (overflow_mul-x c.before), sat_far 2147483647 c.args.x 4294967296 _ (lit< tt) (pow_mono {i = 32} {j = c.args.n} (omega arith)))
 
 pub overflow_mul-x-2 : goal.overflow_mul-x-2
 overflow_mul-x-2 c = rw (via w64 c.pow64.result c.pow64.type_inv, c.pow64.ensures) (fits_shl w32 w64 _ c.args.n (still w64 tt c.ranges.x) (omega arith))
 
 pub returns : goal.returns
-returns c = cc (via w32 c.sat32-2.result c.sat32-2.type_inv, via w64 c.pow64.result c.pow64.type_inv, wide w64 tt c.ranges.x, to_z-of_z (near (goal.at.returns c).After-pow64))
+returns c = cc (via w32 c.sat32-2.result c.sat32-2.type_inv, via w64 c.pow64.result c.pow64.type_inv, wide w64 tt c.ranges.x, to_z-of_z (overflow_mul-x-2 c.before))
 
 pub overflow_cast-x : goal.overflow_cast-x
 overflow_cast-x c = widens w64 tt c.ranges.x

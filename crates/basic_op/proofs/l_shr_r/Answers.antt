@@ -6,7 +6,7 @@ use mir.Facts.{to_z-of_z, sfits_lit}
 use Rattle.basic_op.specs.Ops.{l_shr_r, rounded}
 use Rattle.laws.specs.Range.{fits_add, fits_half}
 use Rattle.basic_op.specs.Laws.{by_pos, by_neg, rounded_zero, rounded_far, rounded_in}
-use Rattle.laws.specs.Back.{came, via, fits_came, widens, wide, still}
+use Rattle.laws.specs.Back.{came, via, fits_came, fits_by, widens, wide, still}
 use Rattle.basic_op.proofs.l_shr_r.Goals as goal
 
 pub returns-then-n-lt0 : goal.returns-then-n-lt0
@@ -27,20 +27,20 @@ returns-then-k-gt31 c =
     rounded_far x _ c.if-k-gt31.true ∙ ap (rounded x) (c.count-k.ensures ∙ ap nat_abs (to_z-of_z c.ranges.n)) ∙ by_pos (to_z-of_z c.ranges.n) _ _ c.if-n-lt0.false
 
 pub overflow_add-half : goal.overflow_add-half
-overflow_add-half c = fits_add w32 w16 w64 _ (pos 1) (still w64 tt (record { sfits = c.sar32-half.type_inv })) (sfits_lit tt) tt
+overflow_add-half c = fits_add w32 w16 w64 _ (pos 1) (still w64 tt (fits_by w32 c.sar32-half.result c.sar32-half.type_inv)) (sfits_lit tt) tt
 
 pub overflow_cast-result : goal.overflow_cast-result
 overflow_cast-result c =
-    rw (via w64 c.sar64.result c.sar64.type_inv, c.sar64.ensures, to_z-of_z (add_sar64 (goal.at.overflow_cast-result c).After-sar32-half))
-    (fits_half _ (still w64 tt (record { sfits = c.sar32-half.type_inv })))
+    rw (via w64 c.sar64.result c.sar64.type_inv, c.sar64.ensures, to_z-of_z (overflow_add-half c.before))
+    (fits_half _ (still w64 tt (fits_by w32 c.sar32-half.result c.sar32-half.type_inv)))
 
 pub returns : goal.returns
 unfolding l_shr_r
 returns c =
     let x = c.args.x in
-    (cc (to_z-of_z (cast_result (goal.at.returns c).After-sar64), via w64 c.sar64.result c.sar64.type_inv, to_z-of_z (add_sar64 (goal.at.returns c).After-sar32-half), wide w64 tt (record { sfits = c.sar32-half.type_inv }), to_z-of_z c.ranges.x))
+    (cc (to_z-of_z (overflow_cast-result c), via w64 c.sar64.result c.sar64.type_inv, to_z-of_z (overflow_add-half c.before), wide w64 tt (fits_by w32 c.sar32-half.result c.sar32-half.type_inv), to_z-of_z c.ranges.x))
     ∙ rounded_in x _ c.if-k-eq0.false c.if-k-gt31.false
     ∙ ap (rounded x) (c.count-k.ensures ∙ ap nat_abs (to_z-of_z c.ranges.n)) ∙ by_pos (to_z-of_z c.ranges.n) _ _ c.if-n-lt0.false
 
 pub overflow_cast-half : goal.overflow_cast-half
-overflow_cast-half c = widens w64 tt (record { sfits = c.sar32-half.type_inv })
+overflow_cast-half c = widens w64 tt (fits_by w32 c.sar32-half.result c.sar32-half.type_inv)

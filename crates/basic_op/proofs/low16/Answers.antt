@@ -15,13 +15,13 @@ pub overflow_cast-result : goal.overflow_cast-result
 overflow_cast-result c = sfits_widen tt (keep w16 tt c.ranges.x)
 
 sum : (c : Then-x-lt0) → to_z w32 (of_z w32 (to_z w16 (of_z w16 c.args.x))) +ℤ pos 65536 ≡ pos (low16 c.args.x)
-sum c = ap (λ (z : ℤ). z +ℤ pos 65536) (to_z-of_z (cast_result c)) ∙ low_add (to_z-of_z c.ranges.x) c.ranges.x.sfits c.if-x-lt0.true
+sum c = ap (λ (z : ℤ). z +ℤ pos 65536) (to_z-of_z (overflow_cast-result c)) ∙ low_add (to_z-of_z c.ranges.x) c.ranges.x.sfits c.if-x-lt0.true
 
 pub overflow_add-result : goal.overflow_add-result
-overflow_add-result c = rw (sum (goal.at.overflow_add-result c).Then-x-lt0) (record { sfits = omega (arith, low_lt c.args.x) })
+overflow_add-result c = rw (sum c) (record { sfits = omega (arith, low_lt c.args.x) })
 
 pub overflow_cast-result-then-x-lt0 : goal.overflow_cast-result-then-x-lt0
-overflow_cast-result-then-x-lt0 c = (nonneg_of (to_z-of_z (add_result (goal.at.overflow_cast-result-then-x-lt0 c).Then-x-lt0) ∙ sum (goal.at.overflow_cast-result-then-x-lt0 c).Then-x-lt0), rw (to_z-of_z (add_result (goal.at.overflow_cast-result-then-x-lt0 c).Then-x-lt0), sum (goal.at.overflow_cast-result-then-x-lt0 c).Then-x-lt0) (record { fits = low_lt c.args.x }))
+overflow_cast-result-then-x-lt0 c = (nonneg_of (to_z-of_z (overflow_add-result c) ∙ sum c), rw (to_z-of_z (overflow_add-result c), sum c) (record { fits = low_lt c.args.x }))
 
 pub overflow_cast-result-else-x-lt0 : goal.overflow_cast-result-else-x-lt0
 overflow_cast-result-else-x-lt0 c =
@@ -29,7 +29,7 @@ overflow_cast-result-else-x-lt0 c =
     (nonneg_of e, rw e (record { fits = low_lt c.args.x }))
 
 pub returns-then-x-lt0 : goal.returns-then-x-lt0
-returns-then-x-lt0 c = ap nat_abs (to_z-of_z (add_result (goal.at.returns-then-x-lt0 c).Then-x-lt0) ∙ sum (goal.at.returns-then-x-lt0 c).Then-x-lt0)
+returns-then-x-lt0 c = ap nat_abs (to_z-of_z (overflow_add-result c) ∙ sum c)
 
 pub returns-else-x-lt0 : goal.returns-else-x-lt0
 returns-else-x-lt0 c = ap nat_abs (low_same (to_z-of_z c.ranges.x) c.ranges.x.sfits c.if-x-lt0.false)

@@ -12,8 +12,8 @@ overflow_sub-result c = rw (comp_part (to_z-of_z c.ranges.x) c.if-x-lt0.true) (r
 
 pub overflow_cast-result : goal.overflow_cast-result
 overflow_cast-result c = (
-  nonneg_of (to_z-of_z (sub_result (goal.at.overflow_cast-result c).Then-x-lt0) ∙ comp_part (to_z-of_z c.ranges.x) c.if-x-lt0.true),
-  Fits-nat_abs tt (keep w32 tt (sub_result (goal.at.overflow_cast-result c).Then-x-lt0)),
+  nonneg_of (to_z-of_z (overflow_sub-result c) ∙ comp_part (to_z-of_z c.ranges.x) c.if-x-lt0.true),
+  Fits-nat_abs tt (keep w32 tt (overflow_sub-result c)),
 )
 
 pub overflow_cast-result-else-x-lt0 : goal.overflow_cast-result-else-x-lt0
@@ -21,7 +21,7 @@ overflow_cast-result-else-x-lt0 c =
     (nonneg_of (mag_part (to_z-of_z c.ranges.x) c.if-x-lt0.false), Fits-nat_abs tt (keep w32 tt c.ranges.x))
 
 pub returns-then-x-lt0 : goal.returns-then-x-lt0
-returns-then-x-lt0 c = ap nat_abs (to_z-of_z (sub_result (goal.at.returns-then-x-lt0 c).Then-x-lt0) ∙ comp_part (to_z-of_z c.ranges.x) c.if-x-lt0.true)
+returns-then-x-lt0 c = ap nat_abs (to_z-of_z (overflow_sub-result c) ∙ comp_part (to_z-of_z c.ranges.x) c.if-x-lt0.true)
 
 pub returns-else-x-lt0 : goal.returns-else-x-lt0
 returns-else-x-lt0 c = ap nat_abs (mag_part (to_z-of_z c.ranges.x) c.if-x-lt0.false)

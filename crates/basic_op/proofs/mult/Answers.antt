@@ -12,7 +12,7 @@ overflow_mul-a c = fits_mul w16 w16 w32 _ _ (still w32 tt c.ranges.a) (still w32
 pub returns : goal.returns
 unfolding mult
 returns c =
-    cc (via w16 c.sat16.result c.sat16.type_inv, via w32 c.sar32.result c.sar32.type_inv, wide w32 tt c.ranges.a, wide w32 tt c.ranges.b, to_z-of_z (whole (goal.at.returns c).Start))
+    cc (via w16 c.sat16.result c.sat16.type_inv, via w32 c.sar32.result c.sar32.type_inv, wide w32 tt c.ranges.a, wide w32 tt c.ranges.b, to_z-of_z (overflow_mul-a c.before.before))
 
 pub overflow_cast-a : goal.overflow_cast-a
 overflow_cast-a c = widens w32 tt c.ranges.a

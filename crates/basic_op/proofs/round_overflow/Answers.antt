@@ -12,7 +12,7 @@ overflow_add-x c = fits_add w32 w32 w64 _ (pos 32768) (still w64 tt c.ranges.x) 
 
 pub returns : goal.returns
 unfolding round_overflow
-returns c = cc (wide w64 tt c.ranges.x, to_z-of_z (whole (goal.at.returns c).Start))
+returns c = cc (wide w64 tt c.ranges.x, to_z-of_z (overflow_add-x c.before))
 
 pub overflow_cast-x : goal.overflow_cast-x
 overflow_cast-x c = widens w64 tt c.ranges.x

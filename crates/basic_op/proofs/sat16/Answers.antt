@@ -15,5 +15,5 @@ returns-then-x-ltminus32768 c = sat_below 32767 (to_z-of_z c.ranges.x) c.if-x-gt
 
 pub returns-else-x-ltminus32768 : goal.returns-else-x-ltminus32768
 returns-else-x-ltminus32768 c =
-    to_z-of_z (cast_result (goal.at.returns-else-x-ltminus32768 c).Else-x-ltminus32768) ∙ to_z-of_z c.ranges.x
+    to_z-of_z (overflow_cast-result c) ∙ to_z-of_z c.ranges.x
     ∙ sat_same 32767 (to_z-of_z c.ranges.x) c.if-x-gt32767.false c.if-x-ltminus32768.false

@@ -15,5 +15,5 @@ returns-then-x-ltminus2147483648 c = sat_below 2147483647 (to_z-of_z c.ranges.x)
 
 pub returns-else-x-ltminus2147483648 : goal.returns-else-x-ltminus2147483648
 returns-else-x-ltminus2147483648 c =
-    to_z-of_z (cast_result (goal.at.returns-else-x-ltminus2147483648 c).Else-x-ltminus2147483648) ∙ to_z-of_z c.ranges.x
+    to_z-of_z (overflow_cast-result c) ∙ to_z-of_z c.ranges.x
     ∙ sat_same 2147483647 (to_z-of_z c.ranges.x) c.if-x-gt2147483647.false c.if-x-ltminus2147483648.false

@@ -14,13 +14,13 @@ overflow_mul-a c = fits_scale w16 w32 _ 65536 (still w32 tt c.ranges.a) (lit< tt
 
 pub returns-then-n-gt16 : goal.returns-then-n-gt16
 returns-then-n-gt16 c =
-    cc (via w16 c.sat16.result c.sat16.type_inv, wide w32 tt c.ranges.a, to_z-of_z (far (goal.at.returns-then-n-gt16 c).Then-n-gt16), sat_far 32767 c.args.a 65536 _ (lit< tt) (pow_mono {i = 16} {j = c.args.n} (omega arith)))
+    cc (via w16 c.sat16.result c.sat16.type_inv, wide w32 tt c.ranges.a, to_z-of_z (overflow_mul-a c.before), sat_far 32767 c.args.a 65536 _ (lit< tt) (pow_mono {i = 16} {j = c.args.n} (omega arith)))
 
 pub overflow_mul-a-2 : goal.overflow_mul-a-2
 overflow_mul-a-2 c = rw (via w32 c.pow32.result c.pow32.type_inv, c.pow32.ensures) (fits_shl w16 w32 _ c.args.n (still w32 tt c.ranges.a) (omega arith))
 
 pub returns : goal.returns
-returns c = cc (via w16 c.sat16-2.result c.sat16-2.type_inv, via w32 c.pow32.result c.pow32.type_inv, wide w32 tt c.ranges.a, to_z-of_z (near (goal.at.returns c).After-pow32))
+returns c = cc (via w16 c.sat16-2.result c.sat16-2.type_inv, via w32 c.pow32.result c.pow32.type_inv, wide w32 tt c.ranges.a, to_z-of_z (overflow_mul-a-2 c.before))
 
 pub overflow_cast-a : goal.overflow_cast-a
 overflow_cast-a c = widens w32 tt c.ranges.a
