@@ -7,14 +7,14 @@ ghost use Rattle.pitch.specs.Pitch.{parity_ok, decode_t1, decode_t2, nat, t_min,
 ghost use Rattle.pitch.specs.Laws.{in_thirds};
 
 // A pitch delay: an integer and thirds.
-#[derive(Drop)]
+#[derive(Clone, Copy)]
 pub struct Delay {
     pub integer: i16,
     pub fraction: i16,
 }
 
 // The integer delay carried from subframe to subframe.
-#[derive(Drop)]
+#[derive(Clone, Copy)]
 pub struct PitchState {
     pub old: i16,
 }
