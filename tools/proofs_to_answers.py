@@ -135,6 +135,7 @@ class Conv:
             o, n = old.replace(" ", "").strip("."), new.replace(" ", "").strip(".")
             self.argmap[tuple(norm(x) for x in o.split("."))] = n.split(".")
         self.warn = []
+        self.helpers = {}
 
     def names_of(self, callee, kind):
         if not callee:
@@ -237,6 +238,10 @@ class Conv:
                 return m.group(0)
             p, out = self.path(place, alias[root], parts)
             if out is None:
+                # a helper says of which place it speaks
+                before = re.search(r"([\w'₀-₉]+) +\(?$", text[: m.start()])
+                if before and before.group(1) in self.helpers:
+                    p = self.helpers[before.group(1)]
                 up, q = "", place
                 while q != p and q is not None:
                     q, up = self.parent.get(q), up + ".before"
@@ -247,6 +252,7 @@ class Conv:
         # a call's step is a record of its own today, so what it gives is cited by its fields
         text = re.sub(r"\bcame (w\d+) ([A-Za-z][\w'₀-₉.«»-]*)", r"via \1 \2.result \2.type_inv", text)
         text = re.sub(r"\bfits_came (w\d+) ([A-Za-z][\w'₀-₉.«»-]*)", r"fits_by \1 \2.result \2.type_inv", text)
+        text = re.sub(r"\b(to_z w\d+ c\.loop-[\w'«»-]+\.(?!invariant)[\w'«»-]+)", r"\1-bits", text)
         # a test of `!x` says of x itself what it says
         text = re.sub(r"\bnot-(true|false) (\((?:[^()]|\([^()]*\))*\)|\S+) (c\.if-not[\w'.«»-]*\.(?:true|false))", r"\3", text)
         return text
@@ -279,6 +285,30 @@ def contracts_of(root):
                     if fn:
                         out[fn][m.group(1)].append(m.group(2))
     return out
+
+
+def shadowed(text, names):
+    """Marks what a λ binds under a name that is also a variable of the loop."""
+    at = 0
+    while True:
+        m = re.compile(r"λ ([^.λ]*)\. ").search(text, at)
+        if not m:
+            return text
+        bound = [w for w in re.findall(r"[A-Za-z_][\w']*", re.sub(r":[^)]*", "", m.group(1))) if w in names]
+        depth, k = 0, m.start()
+        while k < len(text):
+            if text[k] in OPEN:
+                depth += 1
+            if text[k] in CLOSE:
+                depth -= 1
+                if depth < 0:
+                    break
+            k += 1
+        scope = text[m.start():k]
+        for w in bound:
+            scope = re.sub(rf"(?<![\w.]){w}(?![\w§'-])", w + "§", scope)
+        text = text[: m.start()] + scope + text[k:]
+        at = m.start() + 2
 
 
 def joins(text, entry, goal_types):
@@ -361,6 +391,8 @@ def tupled(body, names):
             flat = parts
             while len(flat) < len(names) and inner(flat[-1]) and len(commas(inner(flat[-1]))) > 1:
                 flat = flat[:-1] + commas(inner(flat[-1]))
+            while len(flat) < len(names) and flat[-1] == "search rules":
+                flat = flat + ["search rules"]
             if len(flat) > len(names):
                 flat = flat[: len(names) - 1] + ["(" + ", ".join(flat[len(names) - 1:]) + ")"]
             if len(flat) == len(names):
@@ -431,15 +463,22 @@ def turn(path, entry, clauses, crate, modpath, out):
                     return sub[mm.group(1)] + mm.group(2)
                 return mm.group(0)
 
-            pat = re.compile(r"(?<![\w'₀-₉.◌-])([A-Za-zκ_«][\w'₀-₉»-]*)((?:\.[\w'₀-₉«»-]+)*)(?![\w'₀-₉◌])")
-            b = pat.sub(s, b)
+            pat = re.compile(r"(?<![\w'₀-₉.◌-])([A-Za-zκ_«][\w'₀-₉»-]*)((?:\.[\w'₀-₉«»-]+)*)(?![\w'₀-₉◌§])")
+            b = pat.sub(s, shadowed(b, sub)).replace("§", "")
             # a signed variable is a number in an invariant of today
             b = re.sub(rf"\(to_z w\d+ ({L}\.[\w.«»-]+)\)", r"\1", b)
             b = re.sub(rf"\bto_z w\d+ ({L}\.[\w.«»-]+)", r"\1", b)
             inv_lines += d.comments + [f"abbrev pub {kind}-{new} : goal.{kind}-{new}"] + d.unfolding + [f"{kind}-{new} {L} ={b}", ""]
             continue
     # helpers and answers
+    for d in decls:
+        hm = re.search(r"\([\w'₀-₉]+ : tie\.(\S+?)(?: invariant_\w+| decreases_\w+)*\)", d.type)
+        if hm:
+            conv.helpers[d.name] = norm(hm.group(1))
     position = {}
+    for i, a in enumerate(answers):
+        if re.fullmatch(r"[\w'₀-₉-]+", a):
+            conv.helpers[a] = norm(entry["asked_at"][i][0])
     for i, a in enumerate(answers):
         if re.fullmatch(r"[\w'₀-₉-]+", a):
             position.setdefault(a, []).append(i)
@@ -483,7 +522,7 @@ def turn(path, entry, clauses, crate, modpath, out):
         if d.name in position:
             if len(d.clauses) != 1:
                 raise ValueError(f"{d.name} has {len(d.clauses)} clauses")
-            m = re.match(r"(\S+) c(?: κs)?( i)? =(.*)$", d.clauses[0], re.S)
+            m = re.match(r"(\S+) c(?: κs)?((?: \w+)*) =(.*)$", d.clauses[0], re.S)
             if not m:
                 m0 = re.match(r"(\S+) =(.*)$", d.clauses[0], re.S)
                 raise ValueError(f"{d.name}: {d.clauses[0][:60]}")
