@@ -96,7 +96,7 @@ def parse(text):
             uses.append(l)
         elif l.startswith("unfolding "):
             cur.unfolding.append(l)
-        elif l[0].isspace():
+        elif l[0].isspace() or l[0] in CLOSE:
             if not cur.clauses:
                 cur.type += "\n" + l
             else:
@@ -129,6 +129,11 @@ class Conv:
             self.field[norm(p[0])] = (norm(p[2][0]), p[2][1])
             self.callee[norm(p[0])] = p[3]
             self.newplace[norm(p[0])] = n
+        self.arm = {norm(p[0]): a for p, a in zip(entry["places"], entry["arms"]) if a}
+        self.argmap = {}
+        for old, new in entry["args"]:
+            o, n = old.replace(" ", "").strip("."), new.replace(" ", "").strip(".")
+            self.argmap[tuple(norm(x) for x in o.split("."))] = n.split(".")
         self.warn = []
 
     def names_of(self, callee, kind):
@@ -151,33 +156,58 @@ class Conv:
         self.warn.append("clauses " + ".".join(parts))
         return parts
 
-    def path(self, place, parts, var="c"):
+    def at(self, place, parts, var):
+        """The path of a step's field, if the step is this place's."""
+        f, rest = parts[0], parts[1:]
+        if place in self.arm:
+            name, _, facts = self.arm[place]
+            for new, step, was in facts:
+                if norm(f) == norm(step) and [norm(x) for x in rest[: len(was)]] == [norm(x) for x in was]:
+                    return var + "." + ".".join([name, new] + rest[len(was):])
+        own = self.field.get(place, ("", ""))
+        if own[0] and norm(f).lower() == own[0].lower():
+            if rest[:1] == ["ensures"]:
+                rest = ["ensures"] + self.clause(rest[1:], self.names_of(self.callee[place], "ensures"))
+            if rest[:1] == ["new"] and rest[1:2] in (["0"], ["1"]):
+                k = 1
+                while k < len(rest) and rest[k] == "1":
+                    k += 1
+                names = self.e["params"].get(self.callee[place] or "", [])
+                if k < len(rest) and rest[k] == "0" and k - 1 < len(names):
+                    rest = ["new", names[k - 1]] + rest[k + 1:]
+                else:
+                    self.warn.append("new of " + str(self.callee[place]))
+            return var + "." + ".".join([own[1]] + rest)
+        return None
+
+    def path(self, base, place, parts, var="c"):
         while parts and parts[0] == "before":
             place = self.parent.get(place)
             parts = parts[1:]
         if not parts:
             return place, None
-        if place is None:
-            self.warn.append("no place " + ".".join(parts))
-            return place, var + "." + ".".join(parts)
+        for k, n in self.argmap.items():
+            if tuple(norm(x) for x in parts[: len(k)]) == k:
+                parts = n + parts[len(k):]
+                break
         f = parts[0]
         rest = parts[1:]
-        own = self.field.get(place, ("", ""))
-        if norm(f) == own[0] or norm(f).lower() == own[0].lower():
-            if rest[:1] == ["ensures"]:
-                rest = ["ensures"] + self.clause(rest[1:], self.names_of(self.callee[place], "ensures"))
-            return place, var + "." + ".".join([own[1]] + rest)
-        if f in ("requires",):
+        if place is not None:
+            found = self.at(place, parts, var)
+            if found:
+                return place, found
+        # the step of another place on the way, by its name
+        up = base
+        while up is not None:
+            found = self.at(up, parts, var)
+            if found:
+                return place, found
+            up = self.parent.get(up)
+        if f == "requires":
             rest = self.clause(rest, self.names_of(self.crate + "::" + self.fn, "requires"))
         if f in ("well-formed", "well_formed"):
             f = "well_formed"
-        elif f not in ("args", "requires", "ranges", "lifetimes", "type_inv", "loop", "measure"):
-            # a field of an ancestor that the old record had here too
-            up = place
-            while up is not None:
-                if norm(f) == self.field[up][0]:
-                    return place, var + "." + ".".join([self.field[up][1]] + rest)
-                up = self.parent.get(up)
+        elif not f.startswith(("told", "fits-")) and f not in ("args", "requires", "ranges", "lifetimes", "type_inv", "measure"):
             self.warn.append(f"field {f} at {place}")
         return place, var + "." + ".".join([f] + rest)
 
@@ -205,17 +235,21 @@ class Conv:
             root, parts = m.group(1), [x for x in m.group(2).split(".") if x]
             if root not in alias:
                 return m.group(0)
-            p, out = self.path(alias[root], parts)
+            p, out = self.path(place, alias[root], parts)
             if out is None:
-                if p == place and need is None:
-                    return "c"
-                name = self.newplace.get(p, "?")
-                if need is None:
-                    return f"(goal.at.{name} c)"
-                return f"(goal.at.{need} c).{name}"
+                up, q = "", place
+                while q != p and q is not None:
+                    q, up = self.parent.get(q), up + ".before"
+                return var + up
             return out
 
-        return PATH.sub(sub, text)
+        text = PATH.sub(sub, text)
+        # a call's step is a record of its own today, so what it gives is cited by its fields
+        text = re.sub(r"\bcame (w\d+) ([A-Za-z][\w'₀-₉.«»-]*)", r"via \1 \2.result \2.type_inv", text)
+        text = re.sub(r"\bfits_came (w\d+) ([A-Za-z][\w'₀-₉.«»-]*)", r"fits_by \1 \2.result \2.type_inv", text)
+        # a test of `!x` says of x itself what it says
+        text = re.sub(r"\bnot-(true|false) (\((?:[^()]|\([^()]*\))*\)|\S+) (c\.if-not[\w'.«»-]*\.(?:true|false))", r"\3", text)
+        return text
 
 
 def contracts_of(root):
@@ -245,6 +279,55 @@ def contracts_of(root):
                     if fn:
                         out[fn][m.group(1)].append(m.group(2))
     return out
+
+
+def joins(text, entry, goal_types):
+    """Where two branches join: `⊎_elim (λ w. A) (λ w. B) c.if-x.branch` becomes an `elim` with a case for each."""
+    while True:
+        at = text.find("⊎_elim ")
+        if at < 0:
+            return text
+        rest = text[at + len("⊎_elim "):]
+        parts, depth, k = [], 0, 0
+        cur = ""
+        while k < len(rest) and len(parts) < 3:
+            ch = rest[k]
+            if ch in OPEN:
+                depth += 1
+            if ch in CLOSE:
+                if depth == 0:
+                    break
+                depth -= 1
+            if depth == 0 and (ch.isspace() or ch in ",") and cur:
+                parts.append(cur)
+                cur = ""
+                if ch == ",":
+                    break
+            elif depth > 0 or not ch.isspace():
+                cur += ch
+            k += 1
+        if cur and len(parts) < 3:
+            parts.append(cur)
+        if len(parts) != 3:
+            return text
+        end = text.index(parts[2], at) + len(parts[2])
+        m = re.match(r"c\.(if-[\w'-]+)\.branch$", parts[2])
+        if not m:
+            return text.replace("⊎_elim ", "⊎-elim ", 1)
+        step = m.group(1)
+        name = step[3:]
+        vs = [v for loop, ch in zip(entry["loops"], entry["changed"]) for v, x in zip(loop[1], ch) if x and loop[0][1] != "loop-" + v]
+        var = vs[0] if vs else "x"
+
+        def case(part, which):
+            b = re.match(r"λ (\w+)\. (.*)$", inner(part), re.S)
+            w = b.group(1)
+            b = b.group(2)
+            b = re.sub(rf"\b{w}\.0\.(taken|left)", lambda q: f"{w}.{step}." + ("true" if q.group(1) == "taken" else "false"), b)
+            return f"{which}-{name} {w} ↦ " + re.sub(rf"\b{w}\.1(?![\w.])", f"{w}.{var}-is", b)
+
+        goal_types |= {"then-" + name, "else-" + name}
+        text = text[:at] + f"elim {parts[2]} [ {case(parts[0], 'then')} | {case(parts[1], 'else')} ]" + text[end:]
 
 
 def strip_lambda(a):
@@ -311,6 +394,8 @@ def turn(path, entry, clauses, crate, modpath, out):
     given, answers = args[:ninv], args[ninv:]
     if len(answers) != len(needs):
         raise ValueError(f"{len(answers)} answers for {len(needs)} goals: {[n[1] for n in needs]}")
+    uses = [re.sub(r"\bcame\b", "came, via", u) if "Back.{" in u and "via" not in u else u for u in uses]
+    uses = [re.sub(r"\bfits_came\b", "fits_came, fits_by", u) if "Back.{" in u else u for u in uses]
     base = [u for u in uses if not re.search(r"\.(Statement|Tie)\b", u) and "borrow.Author.Rules" not in u]
     rules = "use Rattle.std.proofs.Common.{rules}"
     dotted = ".".join(modpath)
@@ -327,6 +412,7 @@ def turn(path, entry, clauses, crate, modpath, out):
             kind = "invariant" if k % 2 == 0 else "decreases"
             changed = entry["changed"][k // 2]
             m = re.match(r"(\S+)((?: [^=]*?)?) =(.*)$", "\n".join(d.clauses), re.S)
+            L = next(x for x in ("l", "at", "it") if not re.search(rf"(?<![\w.]){x}(?!\w)", m.group(3)))
             params = m.group(2).split()
             first = [v for v in vs]
             want = len(vs) + sum(changed)
@@ -334,10 +420,10 @@ def turn(path, entry, clauses, crate, modpath, out):
                 raise ValueError(f"{d.name}: {len(params)} parameters for {want}: {params} {vs} {changed}")
             sub = {}
             for v, ch, p in zip(vs, changed, params):
-                sub[p] = ("l.initial." if ch else "l.") + v
+                sub[p] = (L + ".initial." if ch else L + ".") + v
             rest = [v for v, ch in zip(vs, changed) if ch]
             for v, p in zip(rest, params[len(vs):]):
-                sub[p] = "l." + v
+                sub[p] = L + "." + v
             b = m.group(3)
 
             def s(mm):
@@ -347,7 +433,10 @@ def turn(path, entry, clauses, crate, modpath, out):
 
             pat = re.compile(r"(?<![\w'₀-₉.◌-])([A-Za-zκ_«][\w'₀-₉»-]*)((?:\.[\w'₀-₉«»-]+)*)(?![\w'₀-₉◌])")
             b = pat.sub(s, b)
-            inv_lines += d.comments + [f"abbrev pub {kind}-{new} : goal.{kind}-{new}"] + d.unfolding + [f"{kind}-{new} l ={b}", ""]
+            # a signed variable is a number in an invariant of today
+            b = re.sub(rf"\(to_z w\d+ ({L}\.[\w.«»-]+)\)", r"\1", b)
+            b = re.sub(rf"\bto_z w\d+ ({L}\.[\w.«»-]+)", r"\1", b)
+            inv_lines += d.comments + [f"abbrev pub {kind}-{new} : goal.{kind}-{new}"] + d.unfolding + [f"{kind}-{new} {L} ={b}", ""]
             continue
     # helpers and answers
     position = {}
@@ -356,7 +445,19 @@ def turn(path, entry, clauses, crate, modpath, out):
             position.setdefault(a, []).append(i)
     emitted = set()
 
-    def answer(i, body, unf, comments):
+    def cited(text):
+        """An answer that another one cites, at its place."""
+
+        def sub(m):
+            n = m.group(1)
+            if n not in position:
+                return m.group(0)
+            new = needs[position[n][0]][1]
+            return new
+
+        return re.sub(r"(?<![\w'₀-₉.◌-])([A-Za-z][\w'₀-₉]*)(?![\w'₀-₉.-])(?= +c\b)", sub, text)
+
+    def answer(i, body, unf, comments, more=""):
         old, new = needs[i]
         place = norm(entry["asked_at"][i][0])
         b = conv.expr(body, place, new)
@@ -372,8 +473,9 @@ def turn(path, entry, clauses, crate, modpath, out):
             names = conv.names_of(callee, "requires") if callee else None
         if names and len(names) > 1:
             b = tupled(b, names)
+        b = joins(cited(b), entry, goal_types)
         sep = "" if b.startswith("\n") or b.startswith(" ") else " "
-        return comments + [f"pub {new} : goal.{new}"] + unf + [f"{new} c ={sep}{b}", ""]
+        return comments + [f"pub {new} : goal.{new}"] + unf + [f"{new} c{more} ={sep}{b}", ""]
 
     for d in decls:
         if d is spec or d.name in given:
@@ -381,14 +483,15 @@ def turn(path, entry, clauses, crate, modpath, out):
         if d.name in position:
             if len(d.clauses) != 1:
                 raise ValueError(f"{d.name} has {len(d.clauses)} clauses")
-            m = re.match(r"(\S+) c(?: κs)? =(.*)$", d.clauses[0], re.S)
+            m = re.match(r"(\S+) c(?: κs)?( i)? =(.*)$", d.clauses[0], re.S)
             if not m:
                 m0 = re.match(r"(\S+) =(.*)$", d.clauses[0], re.S)
                 raise ValueError(f"{d.name}: {d.clauses[0][:60]}")
-            for i in position[d.name]:
-                if m.group(2).strip() == "search rules" and not d.unfolding:
+            for k in position[d.name]:
+                others = "\n".join("\n".join(x.clauses) for x in decls if x is not d)
+                if m.group(3).strip() == "search rules" and not d.unfolding and not re.search(r"\b" + re.escape(d.name) + r" +(?:c\b|k|\()", others):
                     continue
-                ans_lines += answer(i, m.group(2), d.unfolding, d.comments)
+                ans_lines += answer(k, m.group(3), d.unfolding, d.comments, m.group(2) or "")
         else:
             t = d.type
             cl = "\n".join(d.clauses)
@@ -401,7 +504,7 @@ def turn(path, entry, clauses, crate, modpath, out):
                 rest = t[ms[0].end():]
                 t = t[: ms[0].start()] + f"({var} : {new})" + conv.expr(rest, place, None, var).replace("c.", var + ".") if var != "c" else t[: ms[0].start()] + f"({var} : {new})" + conv.expr(rest, place, None, var)
                 head_, eq, tail = cl.partition("=")
-                cl = head_ + eq + conv.expr(tail, place, None, var)
+                cl = head_ + eq + cited(conv.expr(tail, place, None, var))
             used_helpers.append(d.name)
             ans_lines += d.comments + [f"{d.head}{d.name}{getattr(d, 'extra', '')} : {t}"] + d.unfolding + [cl, ""]
     for i, a in enumerate(answers):
@@ -415,7 +518,7 @@ def turn(path, entry, clauses, crate, modpath, out):
             continue
         if b.strip() == "search rules":
             continue
-        ans_lines += answer(i, " " + b, [], [])
+        ans_lines += answer(i, " " + b, spec.unfolding, [])
     folder = os.path.dirname(path)
     said = []
     if inv_lines:

@@ -1,4 +1,6 @@
 // Adaptive codebook (G.729): the adaptive-codebook vector (clause 3.7.1, equation (40)) at a pitch delay.
+#![tactic(auto)]
+
 ghost use Rattle.std.specs.Prelude.{◌≡◌, ◌+◌, ◌-◌, ◌≤◌, ◌<◌};
 ghost use Rattle.laws.specs.Loops.{run};
 ghost use Rattle.block.specs.Places.{exc_length};

@@ -1,4 +1,6 @@
 // How far two decoders agree from here on, through every list of frames that both receive (change request 13), told by their state blocks.
+#![tactic(auto)]
+
 ghost use Rattle.std.specs.Prelude.{◌≡◌, ◌+◌, ◌≤◌};
 ghost use Rattle.block.specs.Places.{state_length};
 ghost use Rattle.agree.specs.Agree.{equal_words, same_parameters, same_seed_bits, same_signal, refusal, agree};

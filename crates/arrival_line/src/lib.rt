@@ -1,4 +1,6 @@
 // A line of an arrivals text, without its line feed: a frame number, a space, a tab or a comma, and a time in milliseconds. Both are decimal numbers of 32 bits; leading zeros are allowed.
+#![tactic(auto)]
+
 ghost use Rattle.std.specs.Prelude.{◌≡◌, ◌≤◌, length};
 ghost use Rattle.arrival_line.specs.ArrivalLine.{is_digit, number, separates, front, both, read};
 

@@ -1,6 +1,8 @@
 // The basic operators of ITU-T G.191 (G.729 clause 5.2, Table 11) and the extended ones of oper_32b (Table 15) that the voice path calls.
 // Each contract is an equation with a definition of specs/Ops.antt or specs/Oper32b.antt, for every input. No operator keeps a flag:
 // whether one saturates is asked of a function of its own, which synthesis alone calls.
+#![tactic(auto)]
+
 ghost use Rattle.std.specs.Prelude.{◌≡◌, ◌^◌, ◌<◌, ◌≤◌, pos, negsuc, nat_abs, ◌+ℤ◌, ◌-ℤ◌, ◌*ℤ◌};
 ghost use Rattle.std.specs.Int.Signed.{shr_z, mag};
 ghost use Rattle.tables.specs.Layout.{log2};

@@ -1,4 +1,6 @@
 // The fields of a voice frame (G.729 Table 8): ten bytes, highest bit first, to fifteen numbers.
+#![tactic(auto)]
+
 ghost use Rattle.std.specs.Prelude.{◌≡◌, ◌^◌, ◌<◌, ◌≤◌, length, get_or, drop};
 ghost use Rattle.bitstream.specs.Fields.{number, bits, unpack, Answer, fields_call};
 

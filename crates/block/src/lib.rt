@@ -1,5 +1,7 @@
 // Blocks of words (01, "The table block and the state block"): read at any place, where a word past the end is 0, and written.
 // Every function takes blocks of any length and any place. `places` has the lengths and places of a frame's buffers.
+#![tactic(auto)]
+
 ghost use Rattle.std.specs.Prelude.{◌≡◌, ◌∷◌, [], ◌+◌, ◌≤◌, length};
 ghost use Rattle.laws.specs.Lists.{at};
 ghost use Rattle.block.specs.Block.{part, put, copy};

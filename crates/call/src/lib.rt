@@ -1,4 +1,6 @@
 // A call as text (01, "The call text and the program"): lines to printed samples, a part of the text at a time, in lent memory.
+#![tactic(auto)]
+
 ghost use Rattle.std.specs.Prelude.{◌≡◌, ◌+◌, ◌≤◌, min, length};
 ghost use Rattle.std.proofs.Math.Seq.{slice};
 ghost use Rattle.line_step.specs.Step.{kept};

@@ -1,5 +1,7 @@
 // The program `compare [--tables FILE] CALL FAR [SAMPLES]`: compares the far end's samples with what a decoder makes of the call's frames. It reads both in step and prints a
 // line a frame, the stretches, and what was counted. No contract can say what is read or written; the work is done on lent memory, by crates far and compare_turn.
+#![tactic(auto)]
+
 ghost use Rattle.std.specs.Prelude.{◌-◌, ◌≤◌, ◌<◌, length};
 ghost use Rattle.source.specs.Source.{Inside};
 ghost use Rattle.compare.specs.Held.{Held};

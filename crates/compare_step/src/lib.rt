@@ -1,5 +1,7 @@
 // A comparison of a far decoder's samples with what a decoder makes of the same frames (docs/AGREEMENT.md, "The far decoder's state"): one call a frame, on lent memory.
 // Of the far decoder only the samples are seen; `slots` has the candidates for its signal.
+#![tactic(auto)]
+
 ghost use Rattle.std.specs.Prelude.{◌≡◌, cond, ◌++◌, map, pos, negsuc, length, drop, replicate};
 ghost use Rattle.block.specs.Places.{frame_length};
 ghost use Rattle.inverse.specs.Inverse.{frame_words, word};

@@ -1,4 +1,6 @@
 // A turn of a comparison: as many frames as both files have at hand, each line with its far samples, what is counted of them and what is printed.
+#![tactic(auto)]
+
 ghost use Rattle.std.specs.Prelude.{◌≡◌, ◌+◌, ◌^◌, ◌<◌, ◌≤◌, length};
 ghost use Rattle.compare_turn.specs.Turn.{Within, start, call_at, far_at, next};
 

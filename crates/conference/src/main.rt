@@ -1,4 +1,6 @@
 // The program `conference OUT LEG [LEG ...]`: what each leg of a conference heard (change request 10), to new WAV files. Crate conference_files does the work; here are the words of the command line.
+#![tactic(auto)]
+
 ghost use Rattle.std.specs.Prelude.{◌+◌, ◌≤◌, length};
 
 const USAGE: [u8; 51] = *b"usage: conference OUT LEG [LEG ...]  (1 to 8 legs)\n";

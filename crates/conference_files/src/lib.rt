@@ -1,5 +1,7 @@
 // A conference: legs that are files, and what each heard, the sum of all others (change request 10), to new WAV files. Crate leg_frame makes frames of a leg's bytes, crate mix sums them. No
 // contract can say what is read or written; those here say that what is at hand of each leg is inside of its part of the buffer.
+#![tactic(auto)]
+
 ghost use Rattle.std.specs.Prelude.{◌≡◌, ◌<◌, ◌≤◌, length};
 ghost use Rattle.conference_files.specs.Held.{All, Held};
 

@@ -1,4 +1,6 @@
 // The operation Count (01; change request 12): the counts of a call, its frames and those of them that are concealed, and its subframes by the rule of their delay.
+#![tactic(auto)]
+
 ghost use Rattle.std.specs.Prelude.{◌≡◌, false, min};
 ghost use Rattle.count.specs.Count.{no_counts, full, fits, frames_are, with_frame, with_rule, subframes, count, numbers, of_numbers};
 ghost use Rattle.count.specs.Laws.{Few};

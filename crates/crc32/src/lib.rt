@@ -1,4 +1,6 @@
 // CRC-32, the check sum of IEEE 802.3 that gzip and zlib use too, so that other tools can make and check a job file, and name the files that it belongs to.
+#![tactic(auto)]
+
 ghost use Rattle.std.specs.Prelude.{◌≡◌};
 ghost use Rattle.crc32.specs.Crc32.{bit, byte, more, crc32};
 

@@ -1,6 +1,8 @@
 // The decoding program `decode [--tables FILE] [CALL]` (01, "The call text and the program"): tables from a file, a call from standard input or a file, samples and the
 // last form to standard output. What is printed is `output` of call.specs.Call. No contract can say what is read or written, so the work is done on lent memory, by
 // crate read_step; whole_call.specs.Reads has what its reads print together.
+#![tactic(auto)]
+
 ghost use Rattle.std.specs.Prelude.{◌≡◌, ◌&&◌, ◌+◌, ◌≤◌, ◌<◌, eqb, ltb, length, take};
 ghost use Rattle.read_step.specs.Reading.{input_room};
 

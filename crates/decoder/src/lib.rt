@@ -1,4 +1,6 @@
 // The frame call (01, Frame; G.729 clause 4.1.6; lib.rs of the Rust, up to `reconstruct`): what is refused, and a frame's signal from its parameters.
+#![tactic(auto)]
+
 ghost use Rattle.std.specs.Prelude.{◌≡◌, true, false, drop};
 ghost use Rattle.block.specs.Places.{tail_length};
 ghost use Rattle.decoder.specs.Frame.{buffers, subframe_signal, decode};

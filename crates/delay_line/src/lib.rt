@@ -1,4 +1,6 @@
 // The table that the program `delays` prints (change request 12): its lines, written into lent memory. Every line but a row begins with `#`, so that programs that draw take it as it is.
+#![tactic(auto)]
+
 ghost use Rattle.std.specs.Prelude.{◌≡◌, ◌+◌, ◌*◌, ◌≤◌, ◌<◌, min, pos, ◌+ℤ◌, ◌*ℤ◌, length};
 ghost use Rattle.print.specs.Print.{over};
 ghost use Rattle.text.specs.Text.{Put};

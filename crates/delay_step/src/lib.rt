@@ -1,4 +1,6 @@
 // One line of a call (01, "The call text and the program") for a table of delays (change request 12): the operations Line and Count, then the delays of the frame with their rules, and its row.
+#![tactic(auto)]
+
 ghost use Rattle.std.specs.Prelude.{◌≡◌, ◌≤◌, length};
 ghost use Rattle.print.specs.Print.{over};
 ghost use Rattle.line_step.specs.Step.{one_more, with_code};

@@ -1,5 +1,7 @@
 // The program `delays [--tables FILE] [CALL]`: the delays of a call with their rules (change request 12), a row a frame. Crate delays_files does the work; here are the words of the command line and
 // the tables, of which the initial delay is read: a fresh decoder carries it into the first frame.
+#![tactic(auto)]
+
 use tables::Scalar;
 
 const USAGE: [u8; 37] = *b"usage: delays [--tables FILE] [CALL]\n";

@@ -1,5 +1,7 @@
 // What the program `delays` does: reads a call line by line, and prints the table of its delays with their rules (change request 12). No contract can say what is read or written: each line's row is
 // made on lent memory, where it is `delay_step` of crate delay_step.
+#![tactic(auto)]
+
 ghost use Rattle.std.specs.Prelude.{◌≡◌, ◌+◌, ◌≤◌, ◌<◌, length};
 ghost use Rattle.source.specs.Source.{Inside};
 ghost use Rattle.delays_files.specs.Held.{Held};

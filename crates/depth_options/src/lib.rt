@@ -1,5 +1,7 @@
 // What the words of `depths` ask for beside those that `options` takes: `--frames N`, `--start MS`, `--to MS`, `--step MS`, `--lost N` and `--lost P%`. The program hands in its words one by one.
 // The last of two equal options counts. The word behind an option is its value, whatever it is; the first value that can't be taken decides.
+#![tactic(auto)]
+
 ghost use Rattle.std.specs.Prelude.{◌≡◌, cond};
 ghost use Rattle.depth_options.specs.DepthOptions.{none, name, takes, marked, put, is_percent, fits, valued, next, most};
 

@@ -1,4 +1,6 @@
 // The table that the program `depths` prints: its lines, written into lent memory, and what is worked out of the arrivals where no option gives it.
+#![tactic(auto)]
+
 ghost use Rattle.std.specs.Prelude.{◌≡◌, ◌+◌, ◌≤◌, ◌<◌, min, max, length};
 ghost use Rattle.print.specs.Print.{over};
 ghost use Rattle.text.specs.Text.{Put};

@@ -1,4 +1,6 @@
 // The program `depths`: how many frames of a text of arrivals would be lost at each playout depth (change request 11). Crate depths_files does the work; here are the words of the command line.
+#![tactic(auto)]
+
 use depth_options::Wanted;
 use libc::STDERR_FILENO;
 use options::Asked;

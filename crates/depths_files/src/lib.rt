@@ -1,5 +1,7 @@
 // What the program `depths` does: reads a text of arrivals, and prints the table of lost frames against playout depths (change request 11), and the least depth at which no more than the wanted
 // number is lost. No contract can say what is read or written: the lines are made on lent memory, where they are the operation's.
+#![tactic(auto)]
+
 ghost use Rattle.std.specs.Prelude.{◌<◌};
 
 mod reading;

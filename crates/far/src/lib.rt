@@ -1,4 +1,6 @@
 // The far end's samples as a file has them: in the printed form of `decode`, as bare words of 16 bits, low byte first, or as such words in a WAV file.
+#![tactic(auto)]
+
 ghost use Rattle.std.specs.Prelude.{◌≡◌, ◌+◌, ◌<◌, ◌≤◌, length};
 ghost use Rattle.laws.specs.Bytes.{same};
 ghost use Rattle.print.specs.Print.{pcm};

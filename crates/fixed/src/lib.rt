@@ -1,5 +1,7 @@
 // The fixed codebook of G.729: the pulses of clauses 3.8 and 4.1.4, pitch sharpening, and the random indices of an erased frame
 // (clause 4.4.4). Each contract is an equation with a definition of specs/Fixed.antt.
+#![tactic(auto)]
+
 ghost use Rattle.std.specs.Prelude.{◌≡◌, ◌+◌, ◌-◌, ◌≤◌, ◌<◌};
 ghost use Rattle.laws.specs.Lists.{at};
 ghost use Rattle.laws.specs.Loops.{run};

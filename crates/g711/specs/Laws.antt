@@ -561,12 +561,12 @@ no_nan f w nan t = absurd t
 no_nan f w (inf s) t = absurd t
 no_nan f w (fin s m e) t = tt
 
-in_float : (n : ℕ) → n < 2 ^ 16 → T (in_float binary32 (pos n))
+fits_float : (n : ℕ) → n < 2 ^ 16 → T (in_float binary32 (pos n))
 unfolding in_float
-in_float n h = le→leb n (2 ^ 24) (omega arith)
+fits_float n h = le→leb n (2 ^ 24) (omega arith)
 
 pub float_no_nan : (n : ℕ) → n < 2 ^ 16 → T (not (is_nan (of_int binary32 (pos n))))
-float_no_nan n h = no_nan binary32 16 (of_int binary32 (pos n)) (unsigned_back binary32 16 n (in_float n h) h).0
+float_no_nan n h = no_nan binary32 16 (of_int binary32 (pos n)) (unsigned_back binary32 16 n (fits_float n h) h).0
 
 pub leading_lt : (n : ℕ) → leading n < 8192
 unfolding leading

@@ -1,4 +1,6 @@
 // G.711: A-law and mu-law bytes as samples of 16 bits, from stored tables, and samples back to bytes (change request 8; ITU-T G.711).
+#![tactic(auto)]
+
 ghost use Rattle.std.specs.Prelude.{◌≡◌, map, ◌≤◌, ◌<◌, nat_abs, length};
 ghost use Rattle.g711.specs.G711.{a, mu, known, refusal, Read, Written, read_call, write_call};
 ghost use Rattle.g711.specs.Laws.{Expanded};
@@ -90,7 +92,7 @@ pub fn read(law: u32, bytes: &[u8], samples: &mut [i16]) -> u32
 
 // What writing needs of a law: what is added to a sample's size, so that the segments begin at powers of two; the size below which 256 more are added, as A-law's first segment has the
 // steps of the second; and what the bits of a byte are flipped by.
-#[derive(Drop)]
+#[derive(Clone, Copy)]
 struct Form {
     bias: u16,
     lift: u16,

@@ -1,5 +1,7 @@
 // The program `g711_leg`: a G.711 leg (change request 8; ITU-T G.711), raw or in a WAV file, to the printed form of its samples, and back. No contract can say what is read or written, so
 // the work is done on lent memory, by crates leg and wav; source reads.
+#![tactic(auto)]
+
 ghost use Rattle.std.specs.Prelude.{◌<◌};
 
 mod reading;

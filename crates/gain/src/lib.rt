@@ -1,5 +1,7 @@
 // The gains of G.729: prediction (clause 3.9.1), decoding (clauses 3.9.2, 3.9.3 and 4.1.5), an erased frame's (clauses 4.4.2 and 4.4.3), and
 // the factor of pitch sharpening (clause 3.8). Each contract is an equation with a definition of specs/Gain.antt; `t` is the table block.
+#![tactic(auto)]
+
 ghost use Rattle.std.specs.Prelude.{◌≡◌, ◌^◌, ◌<◌, ◌≤◌, ◌*ℤ◌};
 ghost use Rattle.tables.specs.Layout.{gain_ga, gain_gb};
 ghost use Rattle.basic_op.specs.Ops.{add, l_add};

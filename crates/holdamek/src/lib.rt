@@ -1,6 +1,8 @@
 // The operations of 01 for other languages, the delays of frames with their rules, the writing of frames and lines, the frames of RTP payloads, G.711, what each leg of a conference heard, the trying of playout depths, the agreement of two decoders and the comparison with a far one: C functions over pointers and lengths, each the proved function of its crate.
 // A slice is a pointer and then a length in elements. Each returns 0 or the number of its refusal, which leaves all lent memory as it
 // was; what it answers beside its number goes to lent memory. The two for RTP payloads return a struct of both. include/holdamek.h says the same for C.
+#![tactic(auto)]
+
 ghost use Rattle.std.specs.Prelude.{◌≡◌, length};
 ghost use Rattle.tables.specs.Layout.{table_check};
 ghost use Rattle.bitstream.specs.Fields as fields;

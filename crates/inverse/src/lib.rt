@@ -1,4 +1,6 @@
 // The inverse of synthesis (G.729 equation (77) solved for x(n)): the excitation read off samples, and the past excitation that two frames of it tell.
+#![tactic(auto)]
+
 ghost use Rattle.std.specs.Prelude.{◌≡◌, map, ◌≤◌, ◌<◌, length};
 ghost use Rattle.std.specs.Int.Signed.{mag};
 ghost use Rattle.block.specs.Places.{speech_length};

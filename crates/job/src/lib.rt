@@ -1,4 +1,6 @@
 // Jobs that are stopped and resumed: the job file, which is written aside and renamed, and where a resumed job reads and writes.
+#![tactic(auto)]
+
 pub mod names;
 pub mod parts;
 

@@ -1,5 +1,7 @@
 // What a resumed job decides before it writes and between its parts: whether OUT and STATE.new are such as these programs leave, whether the files are different ones, and when a
 // state is saved. The files are the program's.
+#![tactic(auto)]
+
 ghost use Rattle.std.specs.Prelude.{◌≡◌, cond, ◌∷◌, [], ◌≤◌, min};
 ghost use Rattle.laws.specs.Bytes.{same};
 ghost use Rattle.job_step.specs.Step.{due, fits, like, frame_form, own_output, own_state, last_printed, tail_at, out_check, one, different};

@@ -1,4 +1,6 @@
 // The kinds of frame (01, Frame): 0 voice, 1 SID, 2 no transmission, 3 erased, and the payload that each comes with.
+#![tactic(auto)]
+
 ghost use Rattle.std.specs.Prelude.{◌≡◌};
 ghost use Rattle.kind.specs.Kind.{known, payload_length};
 

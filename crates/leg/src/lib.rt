@@ -1,4 +1,6 @@
 // One line of a G.711 leg's text (change request 8; 01, "The call text and the program"): bytes of a law, 1 A or 2 mu, as a line of their samples, and such a line back to bytes.
+#![tactic(auto)]
+
 ghost use Rattle.std.specs.Prelude.{◌≡◌, ◌≤◌, length, take};
 ghost use Rattle.print.specs.Print.{frame_room, over};
 ghost use Rattle.leg.specs.Leg.{leg_line, Answer, bytes_of};

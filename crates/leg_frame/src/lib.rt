@@ -1,5 +1,7 @@
 // The next frame of a leg from its bytes (change request 10): bytes of G.711, words of 16 bits, low byte first, or a line of printed samples (01, "The call text and the program"). Behind
 // the last samples of a leg its frame is silence, 0.
+#![tactic(auto)]
+
 ghost use Rattle.std.specs.Prelude.{◌≡◌, true, ◌++◌, map, ◌≤◌, min, length, take, drop};
 ghost use Rattle.laws.specs.Bytes.{same};
 ghost use Rattle.g711.specs.G711.{known, value};

@@ -1,4 +1,6 @@
 // A line of the call text (01), without its line feed: the operation Line reads one, and `write` is its inverse.
+#![tactic(auto)]
+
 ghost use Rattle.std.specs.Prelude.{◌≡◌, ◌++◌, ◌+◌, ◌*◌, ◌≤◌, length, take, drop};
 ghost use Rattle.laws.specs.Bytes.{same};
 ghost use Rattle.text.specs.Text.{Put};

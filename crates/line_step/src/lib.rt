@@ -1,4 +1,6 @@
 // One line of a call (01, "The call text and the program"): the operations Line, Count and Frame, and what is printed.
+#![tactic(auto)]
+
 ghost use Rattle.std.specs.Prelude.{◌≡◌, ◌≤◌, pos, replicate};
 ghost use Rattle.decoder.specs.Call.{frame};
 ghost use Rattle.print.specs.Print.{frame_room};

@@ -1,5 +1,7 @@
 // LSPs to the coefficients of the LP filter: G.729 clause 3.2.6, equations (25) and (26).
 // The five stages of the recursion are written out: each is one coefficient longer than the one before.
+#![tactic(auto)]
+
 ghost use Rattle.std.specs.Prelude.{◌≡◌, [], ◌∷◌, ◌+◌, ◌*◌, ◌<◌, ◌≤◌, pos, ◌*ℤ◌};
 ghost use Rattle.std.specs.Int.Signed.{mag};
 ghost use Rattle.laws.specs.Lists.{tab};

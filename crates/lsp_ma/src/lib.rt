@@ -1,5 +1,7 @@
 // Moving-average prediction of the line spectral frequencies of G.729, and its inverse: clauses 3.2.4 and 4.4.1.
 // Each contract is an equation with a definition of specs/Ma.antt.
+#![tactic(auto)]
+
 ghost use Rattle.std.specs.Prelude.{◌≡◌, ◌<◌, pos};
 ghost use Rattle.basic_op.specs.Ops.{l_mult, l_shl, extract_h, l_deposit_h};
 ghost use Rattle.lsp_ma.specs.Ma.{add_past, subtract_past, ma_prediction, invert_ma_prediction};

@@ -1,5 +1,7 @@
 // What each caller of a conference heard (change request 10): for each of 1 to 8 legs of 80 samples the sum of all the others, limited to 16 bits after the exact sum. It sees samples
 // alone, so that legs from G.711 and from G.729 are mixed alike.
+#![tactic(auto)]
+
 ghost use Rattle.std.specs.Prelude.{◌≡◌, ◌+◌, ◌*◌, ◌%◌, ◌≤◌, nat_abs, ◌+ℤ◌, ◌-ℤ◌, length};
 ghost use Rattle.std.proofs.Math.Seq.{paste};
 ghost use Rattle.laws.specs.Lists.{at, tab};

@@ -1,4 +1,6 @@
 // What the words of a command line ask for: `--help`, `--version`, `--tables FILE`, and operands. The program hands in its words one by one.
+#![tactic(auto)]
+
 ghost use Rattle.std.specs.Prelude.{◌≡◌, cond, false, ◌<◌, eqb};
 ghost use Rattle.options.specs.Options.{none, settled, no_path, decided, with_tables, with_operand, option, next, ended};
 

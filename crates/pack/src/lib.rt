@@ -1,4 +1,6 @@
 // A voice frame written from its fields (G.729 Table 8), the opposite of `bitstream`: fifteen numbers, or fourteen and the parity bit that is due, to ten bytes, highest bit first.
+#![tactic(auto)]
+
 ghost use Rattle.std.specs.Prelude.{◌≡◌, [], ◌∷◌, ◌++◌, ◌+◌, ◌*◌, ◌^◌, ◌≤◌, ◌<◌, length, get_or, take, drop};
 ghost use Rattle.bitstream.specs.Fields.{bits, widths, cut, Answer};
 ghost use Rattle.pack.specs.Pack.{joined, fits, octets, parity_bit, packed, write_fields, write_fields_parity};

@@ -1,4 +1,6 @@
 // A frame's parameters (G.729 clauses 4.1 and 4.4; lib.rs of the Rust): from the fields of a frame that was received, or by concealment. They never read the signal.
+#![tactic(auto)]
+
 ghost use Rattle.std.specs.Prelude.{◌≡◌};
 ghost use Rattle.parameters.specs.Parameters.{past_rows, to_spectrum, voice_spectrum, concealed_spectrum, sharpened, coded, voice_codes, draw, concealed_codes, subframe, next_params, to_decoded, voice, conceal, parameters};
 

@@ -1,5 +1,7 @@
 // A line of a payload text, without its line feed: an RTP payload in hexadecimal digits, or a line of a call. It becomes lines of a call (01, "The call text and the program"),
 // or the form of its refusal. The digits of a frame are copied as they are: that they are those of its bytes is proved.
+#![tactic(auto)]
+
 ghost use Rattle.std.specs.Prelude.{◌≡◌, true, ◌++◌, ◌+◌, ◌*◌, ◌/◌, ◌≤◌, ◌<◌, length};
 ghost use Rattle.text.specs.Text.{ascii, Put};
 ghost use Rattle.line.specs.Line.{is_hex};

@@ -1,5 +1,7 @@
 // The program `payloads [PAYLOADS]`: RTP payloads in hexadecimal, one a line, from standard input or a file, to the call that `decode` takes, on standard output. What is printed for a line
 // is `payload_line` of payload_line.specs.PayloadLine. No contract can say what is read or written, so the work is done on lent memory, by crate payload_line.
+#![tactic(auto)]
+
 ghost use Rattle.std.specs.Prelude.{◌≤◌, ◌<◌, length};
 
 use payload_line::{LONGEST, ROOM};

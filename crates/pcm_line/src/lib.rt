@@ -1,5 +1,7 @@
 // A line of printed samples (01, "The call text and the program"): `(pcm H)`, four hexadecimal digits for each sample, two's complement, high digit first. A decoded frame has 80;
 // other lines may have fewer. `read` is the inverse of `write`.
+#![tactic(auto)]
+
 ghost use Rattle.std.specs.Prelude.{◌≡◌, ◌++◌, ◌+◌, ◌*◌, ◌≤◌, length, take, drop};
 ghost use Rattle.laws.specs.Bytes.{same};
 ghost use Rattle.text.specs.Text.{Put};

@@ -62,9 +62,9 @@ module _ {y z : ℤ} (e : y ≡ z) where
       go (pos n) q = let h : n < 0 = ltb-true n 0 q in absurd (omega arith)
       go (negsuc n) q = refl
 
-  pub nat_abs : lt_z y (pos 0) ≡ false → nat_abs y ≡ nat z
+  pub nat_of_abs : lt_z y (pos 0) ≡ false → nat_abs y ≡ nat z
   unfolding nat
-  nat_abs p = rw e (go z (rw e at p))
+  nat_of_abs p = rw e (go z (rw e at p))
     where
       go : (z : ℤ) → lt_z z (pos 0) ≡ false → nat_abs z ≡ nat z
       go (pos n) q = refl

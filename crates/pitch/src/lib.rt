@@ -1,18 +1,20 @@
 // The pitch delay (G.729): its parity (clause 3.7.2), the decoding of both subframes' delays (clauses 4.1.2 and 4.1.3), and the delay of an
 // erased subframe (clause 4.4.4).
+#![tactic(auto)]
+
 ghost use Rattle.std.specs.Prelude.{◌≡◌, ◌/◌, ◌<◌, ◌≤◌};
 ghost use Rattle.pitch.specs.Pitch.{parity_ok, decode_t1, decode_t2, nat, t_min, track, carried, increased, first, second, erased, voice_delays, concealed_delays};
 ghost use Rattle.pitch.specs.Laws.{in_thirds};
 
 // A pitch delay: an integer and thirds.
-#[derive(Drop)]
+#[derive(Clone, Copy)]
 pub struct Delay {
     pub integer: i16,
     pub fraction: i16,
 }
 
 // The integer delay carried from subframe to subframe.
-#[derive(Drop)]
+#[derive(Clone, Copy)]
 pub struct PitchState {
     pub old: i16,
 }

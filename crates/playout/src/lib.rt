@@ -1,4 +1,6 @@
 // Trying playout depths (change request 11): which frames of a list of arrivals would be played, and how many lost. Times are in milliseconds.
+#![tactic(auto)]
+
 ghost use Rattle.std.specs.Prelude.{◌≡◌, cond, ◌+◌, ◌<◌, min, eqb, map, length};
 ghost use Rattle.playout.specs.Playout.{Answer, arrivals, due, kinds, lost, below, refusal, playout, enough, least};
 ghost use Rattle.playout.specs.Laws.{kept, take_in};

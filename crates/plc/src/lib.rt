@@ -1,4 +1,6 @@
 // What a received frame is decoded as (G.729 clause 4.4): a voice frame by its fields, every other by concealment.
+#![tactic(auto)]
+
 ghost use Rattle.std.specs.Prelude.{◌≡◌};
 ghost use Rattle.plc.specs.Kinds.{decide};
 

@@ -1,4 +1,6 @@
 // The printed forms of the decoding program, each ended by a line feed, written into lent memory.
+#![tactic(auto)]
+
 ghost use Rattle.std.specs.Prelude.{◌≡◌, ◌+◌, ◌*◌, ◌≤◌, length};
 ghost use Rattle.text.specs.Text.{Put};
 ghost use Rattle.print.specs.Print.{frame_room, form_room, word, words, pcm, decimal, figure, figures, total, saved, refused, over};

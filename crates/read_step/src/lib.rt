@@ -1,4 +1,6 @@
 // One read of a call (01, "The call text and the program"): the whole lines of the bytes held and read are decoded, and what is left is held for the next read.
+#![tactic(auto)]
+
 ghost use Rattle.std.specs.Prelude.{◌≡◌, ◌+◌, ◌≤◌, min, length, take};
 ghost use Rattle.line_step.specs.Step.{kept};
 ghost use Rattle.print.specs.Print.{over, form_room};

@@ -1,4 +1,6 @@
 // The report of a comparison: what is counted, and the forms that are printed, each ended by a line feed, written into lent memory.
+#![tactic(auto)]
+
 ghost use Rattle.std.specs.Prelude.{◌≡◌};
 ghost use Rattle.report.specs.Report.{tell, in_numbers, computed, more, none, add, reached, earliest};
 

@@ -1,6 +1,8 @@
 // RTP payloads of G.729 (RFC 3551, section 4.5.6; `split_rtp` of bitstream.rs): voice frames of ten bytes each, then at most one SID frame of two. A frame is handed out as
 // the part of the caller's payload that it occupies; nothing is copied. 12: the length leaves a remainder other than 0 or 2 by ten. 13: the index isn't below the number of frames.
 // The operations are `frames` and `frame`; crates above call `find` and `part`, since a struct that holds a reference asks a proof by hand of its caller.
+#![tactic(auto)]
+
 ghost use Rattle.std.specs.Prelude.{◌≡◌, length};
 ghost use Rattle.rtp.specs.Rtp.{frames, find, part, place, Answer, frame};
 

@@ -1,4 +1,6 @@
 // How each subframe's delay was found (change request 12; G.729 clauses 3.7.2, 4.1.2, 4.1.3 and 4.4.4), and what a frame hands up: both delays with their rules.
+#![tactic(auto)]
+
 ghost use Rattle.std.specs.Prelude.{◌≡◌};
 ghost use Rattle.rule.specs.Rule.{number, known, of_number, first_rule, rules, delays, report};
 ghost use Rattle.plc.specs.Kinds.{decide};

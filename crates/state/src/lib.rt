@@ -1,5 +1,7 @@
 // The state block (01, "The table block and the state block"; the layout is added): 234 words that a caller keeps between frames.
 // Words 0 to 69 are the parameters, which the next frame's parameters depend on, words 70 to 233 the signal.
+#![tactic(auto)]
+
 ghost use Rattle.std.specs.Prelude.{◌≡◌, List, ◌++◌, cond, eqb, ℤ, pos, length, drop, replicate};
 ghost use Rattle.block.specs.Block.{part};
 ghost use Rattle.block.specs.Laws.{Front};

@@ -1,5 +1,7 @@
 // Excitation (G.729, equation (75)) and reconstructed speech (clause 4.1.6), with the second synthesis after saturation. The caller lends the frame's
 // 234 words of excitation (154 of the past, then 80) and its 90 words of speech (the last ten samples before it, then 80).
+#![tactic(auto)]
+
 ghost use Rattle.std.specs.Prelude.{◌≡◌, ◌≤◌, nat_abs};
 ghost use Rattle.synth.specs.Synth.{excite, excitation, divide_by_4, reconstruct_exc, reconstruct_speech};
 

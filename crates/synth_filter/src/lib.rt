@@ -1,5 +1,7 @@
 // The synthesis filter 1/A(z): G.729 clause 4.1.6, equation (77). The caller lends the frame's 234 words of
 // excitation (154 of the past, then 80) and its 90 words of speech (the last ten samples before it, then 80).
+#![tactic(auto)]
+
 ghost use Rattle.std.specs.Prelude.{◌≡◌, ◌-◌, ◌≤◌, ◌<◌, false, List, ℤ, nat_abs, ◌-ℤ◌, ◌*ℤ◌};
 ghost use Rattle.std.specs.Int.Signed.{mag};
 ghost use Rattle.laws.specs.Lists.{at};

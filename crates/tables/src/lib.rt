@@ -1,5 +1,7 @@
 // The decoder's tables (clauses 3 to 4.4 of G.729). The trained ones are handed in as one block of 1,880 words, read here:
 // every reader takes any block, and a word past its end reads as 0. Those by formula are in `formula`, stated constants in `text`.
+#![tactic(auto)]
+
 ghost use Rattle.std.specs.Prelude.{◌≡◌};
 ghost use Rattle.tables.specs.Layout.{lsp_cb1, lsp_cb2, lsp_ma, lsp_ma_sum, lsp_ma_sum_inv, b30, gain_ga, gain_gb, map_ga, map_gb, initial_lsp, place, scalar, delay_in_range, table_check};
 

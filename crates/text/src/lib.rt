@@ -1,4 +1,6 @@
 // What the forms of text share (01, "The call text and the program"): hexadecimal digits and their values, whether two texts are the same, and whether one begins with the other. Its definitions have texts as lists of bytes.
+#![tactic(auto)]
+
 ghost use Rattle.std.specs.Prelude.{◌≡◌, ◌%◌, ◌<◌};
 ghost use Rattle.laws.specs.Bytes.{same};
 ghost use Rattle.laws.specs.Digits.{digit, is_digit, value};

@@ -1,5 +1,7 @@
 // WAV files ("Multimedia Programming Interface and Data Specifications 1.0", RIFF; RFC 2361 names the format tags): chunks of a name of four bytes, a length of four and so many
 // bytes, of which `fmt ` tells the form of the samples and `data` has them. Where the samples of one are, and the header of a new one.
+#![tactic(auto)]
+
 ghost use Rattle.std.specs.Prelude.{◌≡◌, ◌+◌, ◌≤◌, length};
 ghost use Rattle.wav.specs.Wav.{field, behind, named, Inside, next, last, fault, wrong, samples, look, count, header};
 

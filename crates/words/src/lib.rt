@@ -1,5 +1,7 @@
 // Numbers in a file, low byte first: words in two's complement (01, "The call text and the program": the bytes of the tables), and unsigned
 // numbers of up to eight bytes, one or several behind another.
+#![tactic(auto)]
+
 ghost use Rattle.std.specs.Prelude.{◌≡◌, ◌*◌, ◌^◌, ◌<◌, ◌≤◌, min, length, take};
 ghost use Rattle.words.specs.Words.{word, from_bytes, to_bytes, number, number_bytes, read_numbers, put_numbers};
 

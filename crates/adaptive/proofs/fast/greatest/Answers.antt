@@ -1,0 +1,27 @@
+-- The answers of `adaptive::fast::greatest`.
+use mathlib.Core.Path.{◌≡◌, ap, ◌∙◌}
+use Prim.Native.Nat.{◌+◌, ◌-◌, ◌≤◌}
+use native.Mathlib.Omega.{arith}
+use mathlib.Core.Logic.{⊎_elim}
+use lib.Signed.{mag}
+use mir.Syntax.{w16}
+use Rattle.laws.specs.Lists.{at}
+use Rattle.laws.specs.Back.{via}
+use Rattle.adaptive.specs.Fast.{Small}
+use Rattle.adaptive.specs.FastLaws.{small_next}
+use Rattle.std.proofs.Common.{rules}
+use Rattle.adaptive.proofs.fast.greatest.Goals as goal
+use Rattle.adaptive.proofs.fast.greatest.Goals.{else-m-x, then-m-x}
+
+pub loop-j-preserved : goal.loop-j-preserved
+loop-j-preserved c =
+    let a = c.args in
+    let x = at a.exc.now (a.from + c.loop-j.j) in
+    let e : c.magnitude-x.result ≡ mag x = c.magnitude-x.ensures ∙ ap mag (via w16 x c.magnitude-arg-1.given) in
+    (search rules, small_next a.exc.now a.from c.loop-j.j c.loop-j.m c.if-m-x.m c.loop-j.invariant.1 (elim c.if-m-x.branch [ then-m-x w ↦ omega arith | else-m-x w ↦ omega arith ]) (elim c.if-m-x.branch [ then-m-x w ↦ omega (arith, e) | else-m-x w ↦ omega (arith, e) ]))
+
+pub returns : goal.returns
+returns c = λ j h. c.loop-j.invariant.1 j (omega arith)
+
+pub loop-j-init : goal.loop-j-init
+loop-j-init c = (search rules, λ j h. absurd (omega arith))

@@ -1,0 +1,18 @@
+-- `adaptive::fast::taps` meets its contract: before turn j the first j taps are written.
+use mathlib.Core.Path.{◌≡◌, ap, ◌∙◌}
+use Prim.Native.Nat.{◌-◌, ◌≤◌}
+use native.Mathlib.Omega.{arith}
+use lib.IntN.{pos}
+use lib.ListN.{replicate}
+use mir.Syntax.{w16}
+use Rattle.laws.specs.Lists.{at}
+use Rattle.laws.specs.Loops.{run, run_none, write, ended_from}
+use Rattle.laws.specs.Back.{via}
+use Rattle.adaptive.specs.Fast.{tap, taps}
+use Rattle.adaptive.proofs.fast.taps.Given as goal
+
+abbrev pub invariant-loop-j : goal.invariant-loop-j
+invariant-loop-j l = (l.j ≤ 20) × (l.c ≡ run (λ k e. at l.b30 (tap l.phase k)) l.offset l.j (replicate 32 (pos 0)))
+
+abbrev pub decreases-loop-j : goal.decreases-loop-j
+decreases-loop-j l = 20 - l.j

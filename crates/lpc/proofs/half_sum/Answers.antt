@@ -1,0 +1,8 @@
+-- `lpc::half_sum` meets its contract: equation (26) on what equation (25) gives. Assumes nothing.
+use mir.Syntax.{w16, w32}
+use Rattle.laws.specs.Back.{came, via}
+use Rattle.lpc.proofs.half_sum.Goals as goal
+
+pub returns : goal.returns
+returns c =
+    cc (via w16 c.half_q12.result c.half_q12.type_inv, via w32 c.l_add.result c.l_add.type_inv, via w32 c.f2_prime.result c.f2_prime.type_inv, via w32 c.f1_prime.result c.f1_prime.type_inv)

@@ -1,0 +1,19 @@
+-- `lsp::interpolate` meets its contract: the first i words are set.
+use mathlib.Core.Path.{◌≡◌, refl}
+use Prim.Native.Nat.{◌-◌, ◌≤◌}
+use lib.IntN.{pos}
+use lib.ListN.{replicate}
+use lib.Signed.{shr_z}
+use mir.Syntax.{w16}
+use Rattle.laws.specs.Lists.{at, filled, filled_none, fill, filled_end}
+use Rattle.laws.specs.Back.{via2}
+use Rattle.basic_op.specs.Ops.{add}
+use Rattle.lsp.specs.Lsp.{interpolate}
+use native.Mathlib.Omega.{arith}
+use Rattle.lsp.proofs.interpolate.Given as goal
+
+abbrev pub invariant-loop-i : goal.invariant-loop-i
+invariant-loop-i l = (l.i ≤ 10) × (l.out ≡ filled (λ k. add (shr_z (at l.prev k) 2) (shr_z (at l.cur k) 2)) l.i (replicate 10 (pos 0)))
+
+abbrev pub decreases-loop-i : goal.decreases-loop-i
+decreases-loop-i l = 10 - l.i

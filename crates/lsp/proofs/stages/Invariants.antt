@@ -1,0 +1,19 @@
+-- `lsp::stages` meets its contract: the first i words are set.
+use mathlib.Core.Path.{◌≡◌, refl, ◌∙◌}
+use Prim.Native.Nat.{◌-◌, ◌≤◌}
+use mathlib.Core.Bool.{cond}
+use lib.Dec.{ltb}
+use lib.IntN.{pos}
+use lib.ListN.{replicate}
+use mir.Syntax.{w16}
+use Rattle.laws.specs.Lists.{at, filled, filled_none, fill, filled_end}
+use Rattle.laws.specs.Back.{via2}
+use Rattle.basic_op.specs.Ops.{add}
+use native.Mathlib.Omega.{arith}
+use Rattle.lsp.proofs.stages.Given as goal
+
+abbrev pub invariant-loop-i : goal.invariant-loop-i
+invariant-loop-i l = (l.i ≤ 10) × (l.out ≡ filled (λ j. add (at l.first j) (at (cond (ltb j 5) l.lower l.upper) j)) l.i (replicate 10 (pos 0)))
+
+abbrev pub decreases-loop-i : goal.decreases-loop-i
+decreases-loop-i l = 10 - l.i

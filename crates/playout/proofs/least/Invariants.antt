@@ -1,0 +1,16 @@
+-- `playout::least` meets its contract: the least depth stays between the two, and each turn halves what is between them.
+use mathlib.Core.Path.{◌≡◌, refl, sym, ap, ◌∙◌}
+use Prim.Native.Nat.{ℕ, ◌+◌, ◌-◌, ◌/◌}
+use native.Mathlib.Omega.{arith}
+use lib.ListN.{length}
+use borrow.Author.Tests.{not-true, not-false}
+use Rattle.playout.specs.Playout.{arrivals, kinds}
+use Rattle.playout.specs.Laws.{length_kinds}
+use Rattle.playout.specs.Least.{half_less, Inside, inside_first, inside_turn, least_never, least_found}
+use Rattle.playout.proofs.least.Given as goal
+
+abbrev pub invariant-loop-b : goal.invariant-loop-b
+invariant-loop-b l = (length l.out ≡ length l.initial.out) × Inside l.start l.allowed (arrivals l.numbers l.times) (length l.initial.out) l.b
+
+abbrev pub decreases-loop-b : goal.decreases-loop-b
+decreases-loop-b l = l.b.high - l.b.low
