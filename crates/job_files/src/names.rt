@@ -135,7 +135,7 @@ fn are_apart(rt: &HostRuntime, n: Names, call: &[u8], state: &[u8], out: &[u8]) 
     let a = file(n.aside);
     let none = missing();
     if !job_step::apart(t, c, none, none, none) {
-        return refuse(call, b"this is the table file: name the call as CALL");
+        return refuse(rt, call, b"this is the table file: name the call as CALL");
     }
     if !job_step::apart(none, none, s, none, a) {
         return refuse(
