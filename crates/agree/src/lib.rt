@@ -9,7 +9,7 @@ use basic_op::low16;
 use block::places::{PAST_LENGTH, PAST_PLACE, TAIL_LENGTH};
 use block::word;
 
-#[derive(Drop)]
+#[derive(Clone, Copy)]
 pub enum Agreed {
     Refused(u32),
     // Nothing can be said.

@@ -8,21 +8,21 @@ ghost use Rattle.arrival_line.specs.ArrivalLine.{is_digit, number, separates, fr
 const MOST: u64 = 4294967295;
 
 // What a line tells: the number of a frame, and when it arrived.
-#[derive(Drop)]
+#[derive(Clone, Copy)]
 pub struct Arrival {
     pub number: u32,
     pub time: u32,
 }
 
 // A decimal number of at most 32 bits, or nothing where the text is none.
-#[derive(Drop)]
+#[derive(Clone, Copy)]
 pub enum Decimal {
     None,
     Value(u32),
 }
 
 // An arrival, or nothing where the text is no line.
-#[derive(Drop)]
+#[derive(Clone, Copy)]
 pub enum Line {
     Refused,
     Arrival(Arrival),

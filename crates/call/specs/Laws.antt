@@ -11,7 +11,7 @@ use Rattle.std.proofs.Math.ListN.{length, take, drop}
 use Rattle.std.proofs.Math.Seq.{take-length, append_snoc, take-append_seam, drop-append-add, take_at, drop_at, paste, slice}
 use Rattle.std.proofs.lemmas.List.Edits.{drop-paste}
 use borrow.Author.Tests.{lt-ltb, le-ltb, eq-eqb, ne_eqb, eqb-true, leb-true, ltb-true}
-use Rattle.bytes.specs.Bytes as Bytes
+use Rattle.octets.specs.Octets as Octets
 use Rattle.print.specs.Print.{total, refused, over, frame_room, form_room}
 use Rattle.line.specs.Line.{longest}
 use Rattle.laws.specs.Bytes.{paste_more}
@@ -75,17 +75,17 @@ module _ (t : List ℤ) (job : Job) (most room : ℕ) where
 
 -- ---- the scan for a line feed
 
-feed_index : (l : List ℕ) → Bytes.index_of 10 l ≡ to_feed l
-unfolding to_feed Bytes.index_of Bytes.index_after
+feed_index : (l : List ℕ) → Octets.index_of 10 l ≡ to_feed l
+unfolding to_feed Octets.index_of Octets.index_after
 feed_index [] = refl
 feed_index (b ∷ l) = rw (feed_index l) (by (eqb b 10))
   where
-    by : (p : Bool) → Bytes.index_after p (to_feed l) ≡ cond p 0 (suc (to_feed l))
+    by : (p : Bool) → Octets.index_after p (to_feed l) ≡ cond p 0 (suc (to_feed l))
     by true = refl
     by false = refl
 
-pub found : (l : List ℕ) (from : ℕ) {r : ℕ} → r ≡ from + Bytes.index_of 10 (Bytes.slice from (length l) l) → r ≡ from + to_feed (drop from l)
-unfolding Bytes.slice
+pub found : (l : List ℕ) (from : ℕ) {r : ℕ} → r ≡ from + Octets.index_of 10 (Octets.slice from (length l) l) → r ≡ from + to_feed (drop from l)
+unfolding Octets.slice
 found l from e = e ∙ rw (take-length l, feed_index (drop from l))
 
 -- ---- the loop over the lines of a part

@@ -13,7 +13,7 @@ use line_step::Progress;
 use print::{FORM_ROOM, FRAME_ROOM};
 
 // How far the call is after the lines taken; and how many bytes of input were used and of output written.
-#[derive(Drop)]
+#[derive(Clone, Copy)]
 pub struct Taken {
     pub job: Progress,
     pub used: usize,
@@ -65,13 +65,13 @@ pub fn lines(
     let mut used = 0;
     let mut written = 0;
     while goes_on(job, left, out.len() - written) {
-        let end = bytes::scan::find(input, used, input.len(), 10);
+        let end = octets::find(input, used, input.len(), 10);
         if end == input.len() {
             return Taken { job, used, written };
         }
         let step = line_step::line_step(t, b, job, &input[used..end], &mut text);
         let n = step.written;
-        bytes::copy(&text[0..n], &mut out[written..]);
+        octets::copy(&text[0..n], &mut out[written..]);
         job = step.job;
         left -= 1;
         used = end + 1;
@@ -87,7 +87,7 @@ pub fn overlong(job: Progress, held: &[u8]) -> Progress
     if job.code != 0 {
         return job;
     }
-    if LONGEST < bytes::scan::find(held, 0, held.len(), 10) {
+    if LONGEST < octets::find(held, 0, held.len(), 10) {
         return line_step::with_code(job, 9);
     }
     job

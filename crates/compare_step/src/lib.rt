@@ -25,14 +25,14 @@ const FRONT_LENGTH: usize = 243;
 pub const COMPARE_LENGTH: usize = 2203;
 
 // Where no candidate gives the far samples: the first sample at which none is left, and how much the far one is more than the computed one.
-#[derive(Drop)]
+#[derive(Clone, Copy)]
 pub struct Difference {
     pub sample: u16,
     pub rest: i32,
 }
 
 // What a frame is. The number of Settling and NotClean is the frame's in the count of common voice frames (0: none has passed parity yet), that of Refused says why.
-#[derive(Drop)]
+#[derive(Clone, Copy)]
 pub enum Compared {
     Refused(u32),
     Concealed,
@@ -47,7 +47,7 @@ pub enum Compared {
 }
 
 // What is kept of the far samples.
-#[derive(Drop)]
+#[derive(Clone, Copy)]
 pub struct Far {
     // How many common voice frames there were in a row, from one that passes parity on.
     pub count: i16,
@@ -63,7 +63,7 @@ pub struct Far {
 }
 
 // What the candidates say of a frame: whether there are any, whether the far samples are one's, and where they first are none's.
-#[derive(Drop)]
+#[derive(Clone, Copy)]
 pub struct Seen {
     pub known: bool,
     pub found: bool,
@@ -336,7 +336,7 @@ fn slots_step(
 }
 
 // What a frame leaves of the far samples, and what it is. The slots and the samples are written.
-#[derive(Drop)]
+#[derive(Clone, Copy)]
 pub struct Left {
     pub far: Far,
     pub class: Compared,

@@ -36,7 +36,7 @@ pub const CALL_ENDS: u32 = 4;
 pub const DONE: u32 = 5;
 
 // How far a comparison is: 0, or the number of the refusal that ended it; and what was counted.
-#[derive(Drop)]
+#[derive(Clone, Copy)]
 pub struct Standing {
     pub code: u32,
     pub tally: Tally,
@@ -45,7 +45,7 @@ pub struct Standing {
 }
 
 // The standing behind a frame, and how many bytes were printed, of the report and of the samples.
-#[derive(Drop)]
+#[derive(Clone, Copy)]
 pub struct Stepped {
     pub at: Standing,
     pub written: usize,
@@ -53,7 +53,7 @@ pub struct Stepped {
 }
 
 // The standing behind a turn; how many bytes of the call and of the far end were taken; and how many were printed.
-#[derive(Drop)]
+#[derive(Clone, Copy)]
 pub struct Taken {
     pub at: Standing,
     pub line: usize,
@@ -130,7 +130,7 @@ fn put(form: &[u8; ROOM], n: usize, out: &mut [u8]) -> usize
     ensures { result ≡ n }
 {
     let view: &[u8] = form;
-    bytes::copy(&view[0..n], out)
+    octets::copy(&view[0..n], out)
 }
 
 // The form of a stretch whose last frame is `to`, at the front of `out`, where there is one.
@@ -171,7 +171,7 @@ fn put_samples(form: &[u8; FRAME_ROOM], n: usize, out: &mut [u8]) -> usize
     ensures { result ≡ n }
 {
     let view: &[u8] = form;
-    bytes::copy(&view[0..n], out)
+    octets::copy(&view[0..n], out)
 }
 
 // The samples that were computed for a frame, in the printed form, or `(none)`; nothing where they are not wanted.
@@ -183,7 +183,7 @@ fn samples(wanted: bool, class: u32, computed: &[i16; 80], out: &mut [u8]) -> us
         return 0;
     }
     if !report::computed(class) {
-        return bytes::copy(b"(none)\n", out);
+        return octets::copy(b"(none)\n", out);
     }
     let mut form = [0u8; FRAME_ROOM];
     let n = print::pcm(computed, &mut form);
@@ -305,7 +305,7 @@ fn take(
     requires { (320 ≤ length out.old) × (327 ≤ length pcm.old) }
     ensures { (result.line ≤ length call.now) × ((result.frame ≤ length far.now) × ((result.written ≤ 320) × (result.printed ≤ 327))) }
 {
-    let end = bytes::scan::find(call, 0, call.len(), 10);
+    let end = octets::find(call, 0, call.len(), 10);
     if end == call.len() {
         return nothing(from);
     }
@@ -443,7 +443,7 @@ pub fn turn(
 pub fn call_at(call: &[u8], ended: bool) -> u32
     ensures { result ≡ call_at call.now ended }
 {
-    let n = bytes::scan::find(call, 0, call.len(), 10);
+    let n = octets::find(call, 0, call.len(), 10);
     if n < call.len() {
         return READY;
     }

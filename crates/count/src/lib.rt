@@ -12,7 +12,7 @@ const MOST: u32 = 360000;
 
 const MOST_SUBFRAMES: u32 = 720000;
 
-#[derive(Drop)]
+#[derive(Clone, Copy)]
 pub struct Counts {
     pub frames: u32,
     // Of these, the ones of kinds 1, 2 and 3.
@@ -29,7 +29,7 @@ pub struct Counts {
 pub const NUMBERS: usize = 7;
 
 // An answer of Count: the number of its refusal, or the counts with the frame in them.
-#[derive(Drop)]
+#[derive(Clone, Copy)]
 pub enum Counted {
     Refused(u32),
     Done(Counts),

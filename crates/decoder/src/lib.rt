@@ -13,14 +13,14 @@ use plc::Decision;
 use rule::Report;
 
 // The answer of the frame call (01; change request 12): the delays that the subframes used, with their rules; a refusal returns its number and no other value.
-#[derive(Drop)]
+#[derive(Clone, Copy)]
 pub enum Framed {
     Refused(u32),
     Done(Report),
 }
 
 // The state block that a frame leaves, its speech (the ten samples before it and its 80), and what it hands up.
-#[derive(Drop)]
+#[derive(Clone, Copy)]
 struct Output {
     block: [i16; STATE_LENGTH],
     speech: [i16; SPEECH_LENGTH],

@@ -15,7 +15,7 @@ use line_step::Progress;
 use rule::Report;
 
 // The progress after a line, and how many bytes it printed.
-#[derive(Drop)]
+#[derive(Clone, Copy)]
 pub struct Stepped {
     pub job: Progress,
     pub written: usize,

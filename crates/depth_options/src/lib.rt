@@ -22,7 +22,7 @@ pub const LOST: u32 = 5;
 pub const MOST_FRAMES: u32 = 360000;
 
 // What was asked so far.
-#[derive(Drop)]
+#[derive(Clone, Copy)]
 pub struct Wanted {
     pub frames: u32,
     pub frames_given: bool,

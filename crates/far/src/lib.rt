@@ -21,7 +21,7 @@ pub const WAV: u32 = 2;
 pub const WORDS_LENGTH: usize = 160;
 
 // A frame's samples, and how many bytes they were: 0 where there is no frame.
-#[derive(Drop)]
+#[derive(Clone, Copy)]
 pub struct Found {
     pub bytes: usize,
     pub samples: [i16; 80],

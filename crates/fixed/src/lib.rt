@@ -11,7 +11,7 @@ ghost use Rattle.fixed.specs.Fixed.{random, random_index, position, pulse, codev
 use basic_op::{add, extract_l, low16, mult, shl};
 
 // What an erased subframe draws: the codebook index, the signs, and the seed after both.
-#[derive(Drop)]
+#[derive(Clone, Copy)]
 pub struct Drawn {
     pub index: u16,
     pub sign: u16,

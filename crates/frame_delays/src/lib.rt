@@ -10,7 +10,7 @@ use pitch::PitchState;
 use rule::Report;
 
 // A refusal with its number and no other value, or the delays that the subframes use, with their rules.
-#[derive(Drop)]
+#[derive(Clone, Copy)]
 pub enum Scanned {
     Refused(u32),
     Done(Report),

@@ -15,14 +15,14 @@ use basic_op::{
 use tables::{Scalar, scalars, text};
 
 // The predicted fixed-codebook gain: a mantissa and its Q exponent.
-#[derive(Drop)]
+#[derive(Clone, Copy)]
 pub struct Predicted {
     pub mantissa: i16,
     pub exponent: i16,
 }
 
 // The gain decoder's memory: the last four prediction errors (Q10 dB), newest first, and the last pitch (Q14) and fixed gain (Q1).
-#[derive(Drop)]
+#[derive(Clone, Copy)]
 pub struct GainState {
     pub mem: [i16; 4],
     pub gp: i16,

@@ -14,7 +14,7 @@ use line::{LONGEST, SHORTEST};
 use print::{FRAME_LEAST, FRAME_ROOM};
 
 // Where a stopped job goes on, beside its state block.
-#[derive(Drop)]
+#[derive(Clone, Copy)]
 pub struct Saved {
     pub counts: Counts,
     // How many lines were taken, and how many bytes of the call they are.
@@ -28,7 +28,7 @@ pub struct Saved {
 }
 
 // What is found in a job file: the number of its refusal, or where the job goes on.
-#[derive(Drop)]
+#[derive(Clone, Copy)]
 pub enum Found {
     Refused(u32),
     Job(Saved),

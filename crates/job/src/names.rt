@@ -13,8 +13,8 @@ pub fn aside(path: &[u8], out: &mut [u8]) -> usize
     if out.len() - 4 < path.len() {
         return 0;
     }
-    let n = bytes::copy(path, out);
-    let m = bytes::copy(b".new", &mut out[n..]);
+    let n = octets::copy(path, out);
+    let m = octets::copy(b".new", &mut out[n..]);
     n + m
 }
 

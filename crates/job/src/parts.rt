@@ -7,7 +7,7 @@ use line_step::Progress;
 
 // A part's answer: 0 while the call goes on, else the number of the refusal that ended it; where the job goes on behind the lines taken, how many bytes they print, and how many
 // lines may follow.
-#[derive(Drop)]
+#[derive(Clone, Copy)]
 pub struct Decoded {
     pub code: u32,
     pub place: Saved,
@@ -16,14 +16,14 @@ pub struct Decoded {
 }
 
 // What is read again of a call before its job goes on: the CRC-32 of the bytes so far, and how many are left of those that were taken.
-#[derive(Drop)]
+#[derive(Clone, Copy)]
 pub struct Again {
     pub sum: u32,
     pub left: u64,
 }
 
 // The number of frames that is asked for; not good where it is no decimal number.
-#[derive(Drop)]
+#[derive(Clone, Copy)]
 pub struct Frames {
     pub good: bool,
     pub most: u32,

@@ -11,7 +11,7 @@ use job::Saved;
 use print::FRAME_ROOM;
 
 // A file by its device and inode number, where it is there.
-#[derive(Drop)]
+#[derive(Clone, Copy)]
 pub struct File {
     pub there: bool,
     pub device: u64,
@@ -65,8 +65,8 @@ fn frame_form() -> [u8; FRAME_ROOM]
     ensures { result ≡ frame_form }
 {
     let mut form = [b'h'; FRAME_ROOM];
-    bytes::copy(b"(pcm ", &mut form);
-    bytes::copy(b")\n", &mut form[FRAME_ROOM - 2..]);
+    octets::copy(b"(pcm ", &mut form);
+    octets::copy(b")\n", &mut form[FRAME_ROOM - 2..]);
     form
 }
 

@@ -8,7 +8,7 @@ ghost use Rattle.leg.specs.Leg.{leg_line, Answer, bytes_of};
 use print::FRAME_ROOM;
 
 // 0, or the number of a line's refusal; and how many samples it has.
-#[derive(Drop)]
+#[derive(Clone, Copy)]
 pub struct Taken {
     pub code: u32,
     pub samples: usize,

@@ -35,7 +35,7 @@ pub const OTHER_TOTAL: u32 = 3;
 pub const REFUSED: u32 = 4;
 
 // One of these, and how many samples it has.
-#[derive(Drop)]
+#[derive(Clone, Copy)]
 pub struct Found {
     pub what: u32,
     pub samples: usize,

@@ -16,14 +16,14 @@ pub const SHORTEST: usize = 14;
 pub const LONGEST: usize = 36;
 
 // An answer of Line: the number of its refusal, or the kind of frame.
-#[derive(Drop)]
+#[derive(Clone, Copy)]
 pub enum Read {
     Refused(u32),
     Frame(u32),
 }
 
 // An answer of `write`: the number of its refusal, or the length of the line.
-#[derive(Drop)]
+#[derive(Clone, Copy)]
 pub enum Written {
     Refused(u32),
     Done(usize),
@@ -132,7 +132,7 @@ fn put(part: &[u8], from: usize, out: &mut [u8]) -> usize
     requires { from + length part.now ≤ length out.old }
     ensures { Put part.now from out.old result out.new }
 {
-    from + bytes::copy(part, &mut out[from..])
+    from + octets::copy(part, &mut out[from..])
 }
 
 // The two digits of a byte.

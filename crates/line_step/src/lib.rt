@@ -11,7 +11,7 @@ use line::Read;
 use print::FRAME_ROOM;
 
 // How far a call is: 0 while it goes on, else the number of the refusal that ended it; the lines that were taken; and the counts.
-#[derive(Drop)]
+#[derive(Clone, Copy)]
 pub struct Progress {
     pub code: u32,
     pub lines: u32,
@@ -19,7 +19,7 @@ pub struct Progress {
 }
 
 // The progress after a line, and how many bytes it printed.
-#[derive(Drop)]
+#[derive(Clone, Copy)]
 pub struct Stepped {
     pub job: Progress,
     pub written: usize,

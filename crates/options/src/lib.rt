@@ -31,7 +31,7 @@ pub const UNFIT: u32 = 8;
 
 // What was asked so far: one of the numbers above, and the number of the argument that decided it; the number of the table file's argument; how many operands there
 // are, and the numbers of the first four. 0 is no argument's number here.
-#[derive(Drop)]
+#[derive(Clone, Copy)]
 pub struct Asked {
     pub what: u32,
     pub word: usize,

@@ -83,7 +83,7 @@ fn packed(p: SpeechParams, bytes: &mut [u8]) -> u32
     let a = first_half(p.l0, p.l1, p.l2, p.l3, p.p1, p.p0, p.c1);
     let b = second_half(p.s1, p.ga1, p.gb1, p.p2, p.c2, p.s2, p.ga2, p.gb2);
     let v = bytes_of(a, b);
-    bytes::copy(&v, bytes);
+    octets::copy(&v, bytes);
     0
 }
 

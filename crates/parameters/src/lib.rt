@@ -12,7 +12,7 @@ use plc::Decision;
 use state::Params;
 
 // What the signal of a subframe is made from.
-#[derive(Drop)]
+#[derive(Clone, Copy)]
 pub struct Subframe {
     pub delay: Delay,
     // Pitch gain (Q14) and fixed gain (Q1).
@@ -25,7 +25,7 @@ pub struct Subframe {
 }
 
 // A frame's two subframes, and the parameters that it leaves. Its LSF are `params.omega`.
-#[derive(Drop)]
+#[derive(Clone, Copy)]
 pub struct Decoded {
     pub first: Subframe,
     pub second: Subframe,
@@ -33,7 +33,7 @@ pub struct Decoded {
 }
 
 // A frame's LSF row, frequencies and LSP, and the coefficients of synthesis of its subframes.
-#[derive(Drop)]
+#[derive(Clone, Copy)]
 struct Spectrum {
     row: [i16; 10],
     omega: [i16; 10],
@@ -43,21 +43,21 @@ struct Spectrum {
 }
 
 // A subframe's sharpened codevector, the gains after it, and the factor that sharpens the next.
-#[derive(Drop)]
+#[derive(Clone, Copy)]
 struct Code {
     vector: [i16; 40],
     gain: GainState,
     beta: i16,
 }
 
-#[derive(Drop)]
+#[derive(Clone, Copy)]
 struct Codes {
     first: Code,
     second: Code,
 }
 
 // What the two subframes of an erased frame draw.
-#[derive(Drop)]
+#[derive(Clone, Copy)]
 struct Draws {
     first: Drawn,
     second: Drawn,

@@ -18,7 +18,7 @@ pub const LONGEST: usize = 131070;
 pub const ROOM: usize = 242498;
 
 // 0, or the number of a line's refusal; and how many bytes were printed for it.
-#[derive(Drop)]
+#[derive(Clone, Copy)]
 pub struct Printed {
     pub code: u32,
     pub written: usize,

@@ -7,7 +7,7 @@ ghost use Rattle.plc.specs.Kinds.{decide};
 use bitstream::SpeechParams;
 
 // A voice frame's fields, or that the frame is concealed.
-#[derive(Drop)]
+#[derive(Clone, Copy)]
 pub enum Decision {
     Voice(SpeechParams),
     Concealment,

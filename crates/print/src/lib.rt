@@ -21,7 +21,7 @@ pub fn put(part: &[u8], from: usize, out: &mut [u8]) -> usize
     requires { from + length part.now ≤ length out.old }
     ensures { Put part.now from out.old result out.new }
 {
-    from + bytes::copy(part, &mut out[from..])
+    from + octets::copy(part, &mut out[from..])
 }
 
 // Four digits.

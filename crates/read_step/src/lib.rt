@@ -21,7 +21,7 @@ pub const INPUT: usize = LINES * (SHORTEST + 1);
 pub const OUTPUT: usize = (LINES + 1) * FRAME_ROOM;
 
 // Where a call stands behind a read: how far it is; how many bytes at the front of the input are not used yet; how many bytes of output were written.
-#[derive(Drop)]
+#[derive(Clone, Copy)]
 pub struct Reading {
     pub job: Progress,
     pub held: usize,

@@ -319,6 +319,9 @@ told_two : (g h : Stage) (x : Answered) → Link g h x → Told x → Begun g �
 told_two g h x l o b = go g b (l.next (told_voice x l.fair o))
   where
     go : (g : Stage) → Begun g → Next g h x.answer → h ≡ two
+    go settling c n = elim c [ ]
+    go held c n = elim c [ ]
+    go lost c n = elim c [ ]
     go one one_begun n = n.1 o.number o.is o.late
     go two two_begun n = apart n.0 o.is (λ z. omega arith)
 

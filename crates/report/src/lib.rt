@@ -10,7 +10,7 @@ use count::Counts;
 pub mod forms;
 
 // A frame's answer in numbers: its class; of a settling or unclean frame its number in the count, of one that differs the sample, of a refused one the code; and what is left at that sample.
-#[derive(Drop)]
+#[derive(Clone, Copy)]
 pub struct Told {
     pub class: u32,
     pub number: u32,
@@ -31,7 +31,7 @@ pub const DIFFERS: u32 = 4;
 pub const REFUSED: u32 = 5;
 
 // The counts of a comparison: frames, and the concealed ones of them; and those of the other classes.
-#[derive(Drop)]
+#[derive(Clone, Copy)]
 pub struct Tally {
     pub counts: Counts,
     pub settling: u32,
@@ -41,14 +41,14 @@ pub struct Tally {
 }
 
 // A stretch of frames in a row that are known or differ: its first frame, 0 for none; and how many of them differ.
-#[derive(Drop)]
+#[derive(Clone, Copy)]
 pub struct Stretch {
     pub from: u32,
     pub differ: u32,
 }
 
 // The first frame that differs, 0 for none, and its answer.
-#[derive(Drop)]
+#[derive(Clone, Copy)]
 pub struct First {
     pub frame: u32,
     pub told: Told,

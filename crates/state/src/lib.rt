@@ -16,7 +16,7 @@ use gain::GainState;
 use pitch::PitchState;
 
 // Words 0 to 69 (G.729 clauses 3.2.4, 3.2.5, 3.9.1 and 4.4).
-#[derive(Drop)]
+#[derive(Clone, Copy)]
 pub struct Params {
     // The four past outputs of the LSF quantizer, Q13, newest first.
     pub r0: [i16; 10],

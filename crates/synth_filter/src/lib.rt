@@ -13,7 +13,7 @@ use block::places;
 use block::places::{EXC_LENGTH, SPEECH_LENGTH};
 
 // A sample, and whether an operation on the way to it saturated.
-#[derive(Drop)]
+#[derive(Clone, Copy)]
 struct Sample {
     word: i16,
     overflow: bool,
@@ -144,7 +144,7 @@ fn rounded(l: i64) -> Sample
 }
 
 // Sample n, whether its sum is out of range, and the sum of sample n + 1 without its product with sample n.
-#[derive(Drop)]
+#[derive(Clone, Copy)]
 struct First {
     word: i16,
     overflow: bool,

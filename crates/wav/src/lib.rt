@@ -38,7 +38,7 @@ pub const OTHER_BITS: u32 = 7;
 const CHUNKS: u32 = 64;
 
 // What is found in a file: 0, the place of the first sample, and how many bytes the samples have; or why they can't be taken.
-#[derive(Drop)]
+#[derive(Clone, Copy)]
 pub struct Found {
     pub code: u32,
     pub from: usize,
@@ -46,7 +46,7 @@ pub struct Found {
 }
 
 // Where a header is looked at: the place of a chunk, and that of the format, 0 before it was met.
-#[derive(Drop)]
+#[derive(Clone, Copy)]
 pub struct Place {
     pub at: usize,
     pub format: usize,

@@ -2,6 +2,7 @@
 use Rattle.std.specs.Prelude.{◌≡◌, refl, List, [], ◌∷◌, ◌++◌, ℕ, zero, suc, ◌+◌, ◌-◌, ◌*◌, ◌/◌, ◌%◌, ◌^◌, ◌≤◌, ◌<◌, min, Bool, true, false, leb, ℤ, pos, length, take, drop, get_or, set}
 use Rattle.std.proofs.Common.{sym, ap, ◌∙◌, append_assoc, append-nil, leb-true, leb-false, arith, add-one, lt_of_lt_of_le, length-append, length-take, length-drop, drop_of_length-le, take-append-drop, take-suc, drop-cons, take_all, take_at, drop_at, take-suc-set, drop-set-lt, drop-drop, get_or-take, get_or-drop, pow-add, pow_mono, to_z-of_z}
 use Rattle.std.proofs.Math.Nat.{pow-succ'}
+use Rattle.std.specs.Int.{w16}
 use Rattle.std.specs.Int.Signed.{mag}
 use Rattle.std.proofs.Math.Seq.{append_snoc, take-length}
 use Rattle.std.proofs.lemmas.List.{set_at}
@@ -155,7 +156,7 @@ low_pair n h = omega arith
 
 pub word_back : (z : ℤ) → mag z < 32768 → word (low16 z % 256) (low16 z / 256) ≡ z
 unfolding word extract_l
-word_back z h = rw (low_pair (low16 z) (low_lt z), low_bits z h) (to_z-of_z (record { sfits = h }))
+word_back z h = rw (low_pair (low16 z) (low_lt z), low_bits z h) (to_z-of_z {w = w16} (record { sfits = h }))
 
 -- the words of the bytes of a list of words are that list
 pub words_back : (l : List ℤ) → ((k : ℕ) → mag (at l k) < 32768) → words (bytes l) ≡ l
@@ -286,6 +287,8 @@ pub data Fit : List ℕ → List ℕ → Type 0 where
 pub numbers_back : (ws vs l : List ℕ) → Fit ws vs → numbers ws (numbers_bytes ws vs ++ l) ≡ vs
 unfolding numbers numbers_bytes
 numbers_back [] [] l none = refl
+numbers_back [] (v ∷ vs) l f = elim f [ ]
+numbers_back (w ∷ ws) [] l f = elim f [ ]
 numbers_back (w ∷ ws) (v ∷ vs) l (more _ _ h k f) =
     let n : length (number_bytes w v) ≡ w = length_number_bytes w v in
     rw (append_assoc, take_at (number_bytes w v) (numbers_bytes ws vs ++ l) w n, drop_at (number_bytes w v) (numbers_bytes ws vs ++ l) w n, take_all 8 (number_bytes w v) (omega arith), number_back w v k, numbers_back ws vs l f)
