@@ -71,7 +71,7 @@ def inner(text):
 
 class Decl:
     def __init__(self):
-        self.comments, self.name, self.head, self.type, self.unfolding, self.clauses = [], None, "", "", [], []
+        self.comments, self.name, self.head, self.type, self.unfolding, self.clauses, self.raw = [], None, "", "", [], [], False
 
 
 def parse(text):
@@ -102,6 +102,14 @@ def parse(text):
             else:
                 cur.clauses[-1] += "\n" + l
         else:
+            if re.match(r"(pub )?(record|data|module) ", l):
+                cur = Decl()
+                cur.comments, pending = pending, []
+                cur.name, cur.raw = " " + l, True
+                cur.clauses = [l]
+                decls.append(cur)
+                i += 1
+                continue
             m = re.match(r"((?:abbrev |pub |unfoldable )*)([^\s:{(]+)((?: *\{[^}]*\})*) : (.*)$", l)
             if m and not (cur and cur.name == m.group(2) and cur.clauses == [] and re.match(r"[^:]*=", l)):
                 cur = Decl()
@@ -136,6 +144,7 @@ class Conv:
             self.argmap[tuple(norm(x) for x in o.split("."))] = n.split(".")
         self.warn = []
         self.helpers = {}
+        self.lemmas = set()
 
     def names_of(self, callee, kind):
         if not callee:
@@ -242,6 +251,10 @@ class Conv:
                 before = re.search(r"([\w'₀-₉]+) +\(?$", text[: m.start()])
                 if before and before.group(1) in self.helpers:
                     p = self.helpers[before.group(1)]
+                    if before.group(1) in self.lemmas:
+                        if need is None and p == place:
+                            return var
+                        return f"(goal.at.{need or self.newplace.get(place)} {var}).{self.newplace.get(p, '?')}"
                 up, q = "", place
                 while q != p and q is not None:
                     q, up = self.parent.get(q), up + ".before"
@@ -249,6 +262,12 @@ class Conv:
             return out
 
         text = PATH.sub(sub, text)
+        # an alias of a call's clauses
+        for m in list(re.finditer(r"let ([\w'₀-₉]+) = c\.([\w'«»-]+)\.ensures in", text)):
+            callee = next((self.callee[p] for p, f in self.field.items() if f[1] == m.group(2)), None)
+            names = self.names_of(callee, "ensures")
+            if len(names) > 1:
+                text = re.sub(rf"(?<![\w.]){m.group(1)}((?:\.[01])+)(?![\w])", lambda q: m.group(1) + "." + ".".join(self.clause(q.group(1)[1:].split("."), names)), text)
         # a call's step is a record of its own today, so what it gives is cited by its fields
         text = re.sub(r"\bcame (w\d+) ([A-Za-z][\w'₀-₉.«»-]*)", r"via \1 \2.result \2.type_inv", text)
         text = re.sub(r"\bfits_came (w\d+) ([A-Za-z][\w'₀-₉.«»-]*)", r"fits_by \1 \2.result \2.type_inv", text)
@@ -475,6 +494,7 @@ def turn(path, entry, clauses, crate, modpath, out):
         hm = re.search(r"\([\w'₀-₉]+ : tie\.(\S+?)(?: invariant_\w+| decreases_\w+)*\)", d.type)
         if hm:
             conv.helpers[d.name] = norm(hm.group(1))
+            conv.lemmas.add(d.name)
     position = {}
     for i, a in enumerate(answers):
         if re.fullmatch(r"[\w'₀-₉-]+", a):
@@ -519,7 +539,9 @@ def turn(path, entry, clauses, crate, modpath, out):
     for d in decls:
         if d is spec or d.name in given:
             continue
-        if d.name in position:
+        if d.raw:
+            ans_lines += d.comments + d.clauses + [""]
+        elif d.name in position:
             if len(d.clauses) != 1:
                 raise ValueError(f"{d.name} has {len(d.clauses)} clauses")
             m = re.match(r"(\S+) c(?: κs)?((?: \w+)*) =(.*)$", d.clauses[0], re.S)
@@ -555,7 +577,7 @@ def turn(path, entry, clauses, crate, modpath, out):
         if b is None:
             ans_lines += answer(i, f" {a} c", [], [])
             continue
-        if b.strip() == "search rules":
+        if b.strip() in ("search rules", "omega arith"):
             continue
         ans_lines += answer(i, " " + b, spec.unfolding, [])
     folder = os.path.dirname(path)
