@@ -213,6 +213,16 @@ class Conv:
             if found:
                 return place, found
             up = self.parent.get(up)
+        # a name that was counted, or had capitals, before
+        bare = re.sub(r"([a-z])([A-Z])", r"\1_\2", f).lower()
+        for g in (re.sub(r"\d+$", "", f), bare, re.sub(r"\d+$", "", bare)):
+            if g != f and f not in ("args", "requires", "ranges"):
+                up = base
+                while up is not None:
+                    found = self.at(up, [g] + rest, var)
+                    if found:
+                        return place, found
+                    up = self.parent.get(up)
         if f == "requires":
             rest = self.clause(rest, self.names_of(self.crate + "::" + self.fn, "requires"))
         if f in ("well-formed", "well_formed"):
@@ -426,6 +436,45 @@ def tupled(body, names):
     return body
 
 
+def aligned(answers, needs, byname):
+    """The answers in the order of the goals, where some goals are gone: named answers by their goal's name, the others by their place between these."""
+
+    def trivial(a):
+        b = strip_lambda(a)
+        return b is not None and b.strip() in ("search rules", "omega arith")
+
+    anchors = {}
+    for i, a in enumerate(answers):
+        d = byname.get(a)
+        m = re.match(r"\s*tie\.Need-(\S+)", d.type) if d else None
+        if m:
+            k = norm(m.group(1))
+            hit = [j for j, n in enumerate(needs) if norm(n[0]) == k] or [j for j, n in enumerate(needs) if norm(n[1]) == k]
+            hit = [j for j in hit if j not in anchors.values()]
+            if hit:
+                anchors[i] = hit[0]
+    out = ["(λ c. search rules)"] * len(needs)
+    for i, j in anchors.items():
+        out[j] = answers[i]
+    last_i, last_j = -1, -1
+    for i in sorted(anchors) + [len(answers)]:
+        j = anchors.get(i, len(needs))
+        between = list(range(last_i + 1, i))
+        room = [x for x in range(last_j + 1, j) if x not in anchors.values()]
+        loose = [x for x in between if x not in anchors and not trivial(answers[x])]
+        if loose:
+            if len(room) == len(between):
+                for x, y in zip(between, room):
+                    out[y] = answers[x]
+            elif len(room) == len(loose):
+                for x, y in zip(loose, room):
+                    out[y] = answers[x]
+            else:
+                raise ValueError(f"{len(answers)} answers for {len(needs)} goals: {[n[1] for n in needs]}; loose: {[answers[x][:60] for x in loose]}")
+        last_i, last_j = i, j
+    return out
+
+
 def turn(path, entry, clauses, crate, modpath, out):
     text = open(path, encoding="utf-8").read()
     head, uses, decls = parse(text)
@@ -444,7 +493,7 @@ def turn(path, entry, clauses, crate, modpath, out):
     needs = entry["needs"]
     given, answers = args[:ninv], args[ninv:]
     if len(answers) != len(needs):
-        raise ValueError(f"{len(answers)} answers for {len(needs)} goals: {[n[1] for n in needs]}")
+        answers = aligned(answers, needs, byname)
     uses = [re.sub(r"\bcame\b", "came, via", u) if "Back.{" in u and "via" not in u else u for u in uses]
     uses = [re.sub(r"\bfits_came\b", "fits_came, fits_by", u) if "Back.{" in u else u for u in uses]
     base = [u for u in uses if not re.search(r"\.(Statement|Tie)\b", u) and "borrow.Author.Rules" not in u]
