@@ -1,6 +1,6 @@
 -- What the proofs use of these definitions. Assumes nothing.
-use Rattle.std.specs.Prelude.{◌≡◌, refl, List, [], ◌∷◌, ℕ, suc, ◌+◌, ◌-◌, ◌<◌, ◌≤◌, ◌++◌, Bool, true, false, eqb, length, get_or, take, drop, set}
-use Rattle.std.proofs.Common.{sym, ◌∙◌, ap, arith, add-one, add-zero, eq-eqb, ne_eqb}
+use Rattle.std.specs.Prelude.{◌≡◌, List, ◌∷◌, ℕ, suc, ◌+◌, ◌-◌, ◌<◌, ◌≤◌, length, get_or}
+use Rattle.std.proofs.Common.{arith, add-one, eq-eqb, ne_eqb}
 use Rattle.std.proofs.Math.Seq.{drop-cons}
 use Rattle.octets.specs.Octets.{slice, index_after, index_of}
 

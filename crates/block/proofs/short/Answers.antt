@@ -1,10 +1,9 @@
 -- The answers of `block::short`.
-use Prim.Native.Nat.{◌+◌, ◌-◌, ◌≤◌}
-use mathlib.Core.Path.{◌≡◌, refl, ◌∙◌}
+use mathlib.Core.Path.{refl, ◌∙◌}
 use native.Mathlib.Omega.{arith}
-use lib.ListN.{length, length-set}
+use lib.ListN.{length-set}
 use mir.Syntax.{w16}
-use Rattle.laws.specs.Lists.{at, filled, filled_none, filled_end, fill}
+use Rattle.laws.specs.Lists.{filled_none, filled_end, fill}
 use Rattle.laws.specs.Back.{via}
 use Rattle.block.specs.Block.{part}
 use Rattle.std.proofs.Common.{rules}

@@ -1,12 +1,8 @@
 -- `block::short` meets its contract: before turn i the first i words are done.
 use Prim.Native.Nat.{◌+◌, ◌-◌, ◌≤◌}
-use mathlib.Core.Path.{◌≡◌, refl, ◌∙◌}
-use native.Mathlib.Omega.{arith}
-use lib.ListN.{length, length-set}
-use mir.Syntax.{w16}
-use Rattle.laws.specs.Lists.{at, filled, filled_none, filled_end, fill}
-use Rattle.laws.specs.Back.{via}
-use Rattle.block.specs.Block.{part}
+use mathlib.Core.Path.{◌≡◌}
+use lib.ListN.{length}
+use Rattle.laws.specs.Lists.{at, filled}
 use Rattle.block.proofs.short.Given as goal
 
 abbrev pub invariant-loop-i : goal.invariant-loop-i

@@ -1,9 +1,8 @@
 -- The answers of `block::write`.
-use Prim.Native.Nat.{◌-◌, ◌≤◌}
-use mathlib.Core.Path.{◌≡◌, refl}
+use mathlib.Core.Path.{refl}
 use native.Mathlib.Omega.{arith}
-use lib.ListN.{length, length-set}
-use lib.Seq.{paste, paste-zero}
+use lib.ListN.{length-set}
+use lib.Seq.{paste-zero}
 use mir.Syntax.{w16}
 use Rattle.laws.specs.Back.{via}
 use Rattle.block.specs.Laws.{paste_turn, paste_put}

@@ -1,6 +1,5 @@
 -- The answers of `octets::find`.
-use Rattle.std.proofs.Common.{rules, sym, ◌∙◌, ◌≡◌, ◌-◌, arith}
-use Rattle.octets.specs.Octets.{index_of, slice}
+use Rattle.std.proofs.Common.{rules, sym, ◌∙◌, ◌≡◌, arith}
 use Rattle.octets.proofs.Laws.{passed, stands, nothing}
 use Rattle.octets.proofs.find.Goals as goal
 

@@ -1,11 +1,7 @@
 -- `text::same` meets its contract: texts of one length, of which the bytes passed are the same.
-use mathlib.Core.Path.{◌≡◌, refl, sym}
+use mathlib.Core.Path.{◌≡◌}
 use Prim.Native.Nat.{◌-◌, ◌≤◌}
-use native.Mathlib.Omega.{arith}
-use native.Mathlib.Nat.{zero-add}
 use lib.ListN.{length, take}
-use lib.Seq.{take_all}
-use Rattle.laws.specs.Bytes.{unlike, match_more, match_not, match_end}
 use Rattle.text.proofs.same.Given as goal
 
 abbrev pub invariant-loop-i : goal.invariant-loop-i
