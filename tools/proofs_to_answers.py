@@ -178,13 +178,13 @@ class Conv:
         if own[0] and norm(f).lower() == own[0].lower():
             if rest[:1] == ["ensures"]:
                 rest = ["ensures"] + self.clause(rest[1:], self.names_of(self.callee[place], "ensures"))
-            if rest[:1] == ["new"] and rest[1:2] in (["0"], ["1"]):
+            if rest[:1] in (["new"], ["auto"]) and rest[1:2] in (["0"], ["1"]):
                 k = 1
                 while k < len(rest) and rest[k] == "1":
                     k += 1
                 names = self.e["params"].get(self.callee[place] or "", [])
                 if k < len(rest) and rest[k] == "0" and k - 1 < len(names):
-                    rest = ["new", names[k - 1]] + rest[k + 1:]
+                    rest = [rest[0], names[k - 1]] + rest[k + 1:]
                 else:
                     self.warn.append("new of " + str(self.callee[place]))
             return var + "." + ".".join([own[1]] + rest)
