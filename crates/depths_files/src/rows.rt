@@ -24,6 +24,7 @@ fn narrow(n: usize) -> u32
 }
 
 // How many frames there are: as asked, else one more than the greatest number, which reading has kept below 360,000.
+#[tactic(auto, unfolding(crate::specs::Rows::frames))]
 fn frames(w: Wanted, numbers: &[u32]) -> usize
     ensures { (result ≡ frames w numbers.now) × (result ≤ 360000) }
 {
@@ -34,6 +35,7 @@ fn frames(w: Wanted, numbers: &[u32]) -> usize
 }
 
 // When frame 0 is played at depth 0: as asked, else so that depth 0 is just enough for the fastest frame.
+#[tactic(auto, unfolding(crate::specs::Rows::start))]
 fn start(w: Wanted, numbers: &[u32], times: &[u32]) -> u32
     ensures { result ≡ start w numbers.now times.now }
 {
@@ -44,6 +46,7 @@ fn start(w: Wanted, numbers: &[u32], times: &[u32]) -> u32
 }
 
 // The row of a depth at the front of `out`; its length.
+#[tactic(auto, using(crate::specs::Laws::lost_fits), unfolding(crate::specs::Rows::row_at))]
 fn put_row(
     start: u32,
     depth: u32,
