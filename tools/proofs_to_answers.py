@@ -71,7 +71,7 @@ def inner(text):
 
 class Decl:
     def __init__(self):
-        self.comments, self.name, self.head, self.type, self.unfolding, self.clauses = [], None, "", "", [], []
+        self.comments, self.name, self.head, self.type, self.unfolding, self.clauses, self.raw = [], None, "", "", [], [], False
 
 
 def parse(text):
@@ -102,6 +102,14 @@ def parse(text):
             else:
                 cur.clauses[-1] += "\n" + l
         else:
+            if re.match(r"(pub )?(record|data|module) ", l):
+                cur = Decl()
+                cur.comments, pending = pending, []
+                cur.name, cur.raw = " " + l, True
+                cur.clauses = [l]
+                decls.append(cur)
+                i += 1
+                continue
             m = re.match(r"((?:abbrev |pub |unfoldable )*)([^\s:{(]+)((?: *\{[^}]*\})*) : (.*)$", l)
             if m and not (cur and cur.name == m.group(2) and cur.clauses == [] and re.match(r"[^:]*=", l)):
                 cur = Decl()
@@ -136,6 +144,7 @@ class Conv:
             self.argmap[tuple(norm(x) for x in o.split("."))] = n.split(".")
         self.warn = []
         self.helpers = {}
+        self.lemmas = set()
 
     def names_of(self, callee, kind):
         if not callee:
@@ -204,6 +213,16 @@ class Conv:
             if found:
                 return place, found
             up = self.parent.get(up)
+        # a name that was counted, or had capitals, before
+        bare = re.sub(r"([a-z])([A-Z])", r"\1_\2", f).lower()
+        for g in (re.sub(r"\d+$", "", f), bare, re.sub(r"\d+$", "", bare)):
+            if g != f and f not in ("args", "requires", "ranges"):
+                up = base
+                while up is not None:
+                    found = self.at(up, [g] + rest, var)
+                    if found:
+                        return place, found
+                    up = self.parent.get(up)
         if f == "requires":
             rest = self.clause(rest, self.names_of(self.crate + "::" + self.fn, "requires"))
         if f in ("well-formed", "well_formed"):
@@ -242,6 +261,10 @@ class Conv:
                 before = re.search(r"([\w'₀-₉]+) +\(?$", text[: m.start()])
                 if before and before.group(1) in self.helpers:
                     p = self.helpers[before.group(1)]
+                    if before.group(1) in self.lemmas:
+                        if need is None and p == place:
+                            return var
+                        return f"(goal.at.{need or self.newplace.get(place)} {var}).{self.newplace.get(p, '?')}"
                 up, q = "", place
                 while q != p and q is not None:
                     q, up = self.parent.get(q), up + ".before"
@@ -249,6 +272,12 @@ class Conv:
             return out
 
         text = PATH.sub(sub, text)
+        # an alias of a call's clauses
+        for m in list(re.finditer(r"let ([\w'₀-₉]+) = c\.([\w'«»-]+)\.ensures in", text)):
+            callee = next((self.callee[p] for p, f in self.field.items() if f[1] == m.group(2)), None)
+            names = self.names_of(callee, "ensures")
+            if len(names) > 1:
+                text = re.sub(rf"(?<![\w.]){m.group(1)}((?:\.[01])+)(?![\w])", lambda q: m.group(1) + "." + ".".join(self.clause(q.group(1)[1:].split("."), names)), text)
         # a call's step is a record of its own today, so what it gives is cited by its fields
         text = re.sub(r"\bcame (w\d+) ([A-Za-z][\w'₀-₉.«»-]*)", r"via \1 \2.result \2.type_inv", text)
         text = re.sub(r"\bfits_came (w\d+) ([A-Za-z][\w'₀-₉.«»-]*)", r"fits_by \1 \2.result \2.type_inv", text)
@@ -407,6 +436,45 @@ def tupled(body, names):
     return body
 
 
+def aligned(answers, needs, byname):
+    """The answers in the order of the goals, where some goals are gone: named answers by their goal's name, the others by their place between these."""
+
+    def trivial(a):
+        b = strip_lambda(a)
+        return b is not None and b.strip() in ("search rules", "omega arith")
+
+    anchors = {}
+    for i, a in enumerate(answers):
+        d = byname.get(a)
+        m = re.match(r"\s*tie\.Need-(\S+)", d.type) if d else None
+        if m:
+            k = norm(m.group(1))
+            hit = [j for j, n in enumerate(needs) if norm(n[0]) == k] or [j for j, n in enumerate(needs) if norm(n[1]) == k]
+            hit = [j for j in hit if j not in anchors.values()]
+            if hit:
+                anchors[i] = hit[0]
+    out = ["(λ c. search rules)"] * len(needs)
+    for i, j in anchors.items():
+        out[j] = answers[i]
+    last_i, last_j = -1, -1
+    for i in sorted(anchors) + [len(answers)]:
+        j = anchors.get(i, len(needs))
+        between = list(range(last_i + 1, i))
+        room = [x for x in range(last_j + 1, j) if x not in anchors.values()]
+        loose = [x for x in between if x not in anchors and not trivial(answers[x])]
+        if loose:
+            if len(room) == len(between):
+                for x, y in zip(between, room):
+                    out[y] = answers[x]
+            elif len(room) == len(loose):
+                for x, y in zip(loose, room):
+                    out[y] = answers[x]
+            else:
+                raise ValueError(f"{len(answers)} answers for {len(needs)} goals: {[n[1] for n in needs]}; loose: {[answers[x][:60] for x in loose]}")
+        last_i, last_j = i, j
+    return out
+
+
 def turn(path, entry, clauses, crate, modpath, out):
     text = open(path, encoding="utf-8").read()
     head, uses, decls = parse(text)
@@ -425,7 +493,7 @@ def turn(path, entry, clauses, crate, modpath, out):
     needs = entry["needs"]
     given, answers = args[:ninv], args[ninv:]
     if len(answers) != len(needs):
-        raise ValueError(f"{len(answers)} answers for {len(needs)} goals: {[n[1] for n in needs]}")
+        answers = aligned(answers, needs, byname)
     uses = [re.sub(r"\bcame\b", "came, via", u) if "Back.{" in u and "via" not in u else u for u in uses]
     uses = [re.sub(r"\bfits_came\b", "fits_came, fits_by", u) if "Back.{" in u else u for u in uses]
     base = [u for u in uses if not re.search(r"\.(Statement|Tie)\b", u) and "borrow.Author.Rules" not in u]
@@ -475,6 +543,7 @@ def turn(path, entry, clauses, crate, modpath, out):
         hm = re.search(r"\([\w'₀-₉]+ : tie\.(\S+?)(?: invariant_\w+| decreases_\w+)*\)", d.type)
         if hm:
             conv.helpers[d.name] = norm(hm.group(1))
+            conv.lemmas.add(d.name)
     position = {}
     for i, a in enumerate(answers):
         if re.fullmatch(r"[\w'₀-₉-]+", a):
@@ -519,7 +588,9 @@ def turn(path, entry, clauses, crate, modpath, out):
     for d in decls:
         if d is spec or d.name in given:
             continue
-        if d.name in position:
+        if d.raw:
+            ans_lines += d.comments + d.clauses + [""]
+        elif d.name in position:
             if len(d.clauses) != 1:
                 raise ValueError(f"{d.name} has {len(d.clauses)} clauses")
             m = re.match(r"(\S+) c(?: κs)?((?: \w+)*) =(.*)$", d.clauses[0], re.S)
@@ -555,7 +626,7 @@ def turn(path, entry, clauses, crate, modpath, out):
         if b is None:
             ans_lines += answer(i, f" {a} c", [], [])
             continue
-        if b.strip() == "search rules":
+        if b.strip() in ("search rules", "omega arith"):
             continue
         ans_lines += answer(i, " " + b, spec.unfolding, [])
     folder = os.path.dirname(path)

@@ -5,7 +5,7 @@ ghost use Rattle.std.specs.Prelude.{◌≡◌, ◌^◌, ◌<◌, ◌≤◌, leng
 ghost use Rattle.bitstream.specs.Fields.{number, bits, unpack, Answer, fields_call};
 
 // The fifteen numbers of Table 8, in the order of their bits.
-#[derive(Drop)]
+#[derive(Clone, Copy)]
 pub struct SpeechParams {
     // Line spectral frequencies: predictor and three codebook indices (1, 7, 5, 5 bits).
     pub l0: u16,

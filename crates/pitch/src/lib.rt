@@ -20,14 +20,14 @@ pub struct PitchState {
 }
 
 // The delay that a subframe uses, and the state it leaves.
-#[derive(Drop)]
+#[derive(Clone, Copy)]
 pub struct Tracked {
     pub delay: Delay,
     pub state: PitchState,
 }
 
 // The delays of a frame's two subframes, and the state it leaves.
-#[derive(Drop)]
+#[derive(Clone, Copy)]
 pub struct Delays {
     pub first: Delay,
     pub second: Delay,

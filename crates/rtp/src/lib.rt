@@ -8,7 +8,7 @@ ghost use Rattle.rtp.specs.Rtp.{frames, find, part, place, Answer, frame};
 
 // 0 or the number of the refusal, and how many frames a payload has; 0 beside a refusal.
 #[repr(C)]
-#[derive(Drop)]
+#[derive(Clone, Copy)]
 pub struct FrameCount {
     pub code: u32,
     pub frames: usize,
@@ -16,7 +16,7 @@ pub struct FrameCount {
 
 // 0 or the number of the refusal; the kind of a frame, 0 voice or 1 SID, and the part of the payload that it occupies. All are 0 beside a refusal: the part is empty.
 #[repr(C)]
-#[derive(Drop)]
+#[derive(Clone, Copy)]
 pub struct FramePart {
     pub code: u32,
     pub kind: u32,
@@ -25,7 +25,7 @@ pub struct FramePart {
 }
 
 // The same with the part itself.
-#[derive(Drop)]
+#[derive(Clone, Copy)]
 pub struct PayloadFrame<'a> {
     pub code: u32,
     pub kind: u32,

@@ -9,7 +9,7 @@ use pitch::{Delay, Delays, PitchState};
 use plc::Decision;
 
 // A delay coded in thirds, coded whole, coded relative to the first subframe's, carried after bad parity, carried in concealment: rules 1 to 5 of change request 12.
-#[derive(Drop)]
+#[derive(Clone, Copy)]
 pub enum Rule {
     Thirds,
     Whole,
@@ -19,14 +19,14 @@ pub enum Rule {
 }
 
 // Those of a frame's two subframes.
-#[derive(Drop)]
+#[derive(Clone, Copy)]
 pub struct Rules {
     pub first: Rule,
     pub second: Rule,
 }
 
 // What a frame hands up beside its samples: the delay that each subframe used, and how it was found.
-#[derive(Drop)]
+#[derive(Clone, Copy)]
 pub struct Report {
     pub first: Delay,
     pub second: Delay,

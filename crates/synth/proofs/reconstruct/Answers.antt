@@ -6,10 +6,10 @@ pub returns-then-saturated : goal.returns-then-saturated
 returns-then-saturated c =
     let f = c.synthesize-saturated.ensures in
     let t = c.if-saturated.true in
-    record { exc_after = again_exc _ _ _ _ f.0 t c.divide_by_4.ensures; speech_after = again_speech _ _ _ _ f.0 t c.divide_by_4.ensures f.1 c.synthesize.ensures.speech_after }
+    record { exc_after = again_exc _ _ _ _ f.value t c.divide_by_4.ensures; speech_after = again_speech _ _ _ _ f.value t c.divide_by_4.ensures f.speech_after c.synthesize.ensures.speech_after }
 
 pub returns-else-saturated : goal.returns-else-saturated
 returns-else-saturated c =
     let f = c.synthesize-saturated.ensures in
     let t = c.if-saturated.false in
-    record { exc_after = once_exc _ _ _ _ f.0 t; speech_after = once_speech _ _ _ _ f.0 t f.1 }
+    record { exc_after = once_exc _ _ _ _ f.value t; speech_after = once_speech _ _ _ _ f.value t f.speech_after }

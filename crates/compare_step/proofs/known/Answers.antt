@@ -1,0 +1,16 @@
+-- `compare_step::known` meets its contract.
+use mir.Syntax.{w16}
+use Rattle.laws.specs.Back.{via}
+use Rattle.compare_step.specs.Compare.{known}
+use Rattle.compare_step.proofs.Parts.{Kept}
+use Rattle.std.proofs.Common.{rules}
+use Rattle.compare_step.proofs.known.Goals as goal
+use Rattle.compare_step.proofs.known.Goals.{Start}
+
+kept : (c : Start) → Kept c.args.h
+kept c = search rules
+
+pub returns : goal.returns
+unfolding known
+returns c =
+    rw (c.taken.ensures, via w16 c.args.h.status (kept (goal.at.returns c).Start).status)

@@ -1,0 +1,16 @@
+-- `slots::all_tried` meets its contract: before turn i the first i slots are behind the frame.
+use Prim.Native.Nat.{◌*◌, ◌-◌, ◌≤◌}
+use mathlib.Core.Path.{◌≡◌, refl, ap, ◌∙◌}
+use native.Mathlib.Omega.{arith}
+use lib.ListN.{length}
+use Rattle.laws.specs.Loops.{steps, steps_none, steps_turn, ended_from}
+use Rattle.block.specs.Block.{put}
+use Rattle.block.specs.Laws.{length_put}
+use Rattle.compare_step.specs.Slots.{slot_length, slot, tried, all_tried}
+use Rattle.compare_step.proofs.slots.all_tried.Given as goal
+
+abbrev pub invariant-loop-i : goal.invariant-loop-i
+invariant-loop-i l = (l.i ≤ 8) × ((length l.s ≡ length l.initial.s) × (l.s ≡ steps (λ k x. put x (slot_length * k) (tried l.t l.v l.y (slot x k))) l.i l.initial.s))
+
+abbrev pub decreases-loop-i : goal.decreases-loop-i
+decreases-loop-i l = 8 - l.i

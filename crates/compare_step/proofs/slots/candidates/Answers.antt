@@ -1,0 +1,23 @@
+-- The answers of `compare_step::slots::candidates`.
+use Prim.Native.Nat.{◌*◌, ◌-◌, ◌≤◌}
+use mathlib.Core.Path.{◌≡◌, refl, ap, ◌∙◌}
+use native.Mathlib.Omega.{arith}
+use lib.ListN.{length}
+use Rattle.laws.specs.Loops.{steps, steps_none, steps_turn, ended_from}
+use Rattle.block.specs.Block.{put}
+use Rattle.block.specs.Laws.{length_put}
+use Rattle.compare_step.specs.Slots.{slot_length, candidate, candidates}
+use Rattle.std.proofs.Common.{rules}
+use Rattle.compare_step.proofs.slots.candidates.Goals as goal
+
+pub loop-i-preserved : goal.loop-i-preserved
+loop-i-preserved c =
+    let e = c.put.ensures ∙ ap (put c.loop-i.s (slot_length * c.loop-i.i)) c.candidate-x.ensures in
+    (search rules, (rw c.put.ensures (length_put _ _ _ ∙ c.loop-i.invariant.1.0), steps_turn _ c.loop-i.i _ _ _ c.loop-i.invariant.1.1 e))
+
+pub returns : goal.returns
+unfolding candidates
+returns c = let l = c.loop-i in let e : l.i ≡ 8 = omega arith in ended_from {n = l.i} (steps _) 8 l.invariant.1.1 e
+
+pub loop-i-init : goal.loop-i-init
+loop-i-init c = (search rules, (refl, steps_none _ _))

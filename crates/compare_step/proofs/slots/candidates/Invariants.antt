@@ -1,0 +1,16 @@
+-- `slots::candidates` meets its contract: before turn i the first i slots are written.
+use Prim.Native.Nat.{◌*◌, ◌-◌, ◌≤◌}
+use mathlib.Core.Path.{◌≡◌, refl, ap, ◌∙◌}
+use native.Mathlib.Omega.{arith}
+use lib.ListN.{length}
+use Rattle.laws.specs.Loops.{steps, steps_none, steps_turn, ended_from}
+use Rattle.block.specs.Block.{put}
+use Rattle.block.specs.Laws.{length_put}
+use Rattle.compare_step.specs.Slots.{slot_length, candidate, candidates}
+use Rattle.compare_step.proofs.slots.candidates.Given as goal
+
+abbrev pub invariant-loop-i : goal.invariant-loop-i
+invariant-loop-i l = (l.i ≤ 8) × ((length l.s ≡ length l.initial.s) × (l.s ≡ steps (λ k x. put x (slot_length * k) (candidate l.w l.e k)) l.i l.initial.s))
+
+abbrev pub decreases-loop-i : goal.decreases-loop-i
+decreases-loop-i l = 8 - l.i

@@ -1,0 +1,10 @@
+-- `slots::vacate` meets its contract.
+use native.Mathlib.Omega.{arith}
+use borrow.Author.Tests.{not-true, not-false}
+use Rattle.compare_step.proofs.slots.vacate.Goals as goal
+
+pub returns-then-not-stays : goal.returns-then-not-stays
+returns-then-not-stays c = rw (← c.stays.ensures, c.if-not-stays.true) c.put_word.ensures
+
+pub returns-else-not-stays : goal.returns-else-not-stays
+returns-else-not-stays c = rw (← c.stays.ensures, c.if-not-stays.false)

@@ -1,0 +1,17 @@
+-- `decoder::refusal` meets its contract: each number is returned where it is not 0.
+use borrow.Author.Tests.{eq-eqb, ne_eqb}
+use Rattle.decoder.specs.Call.{first_of, refusal}
+use Rattle.decoder.proofs.refusal.Goals as goal
+
+pub returns-then-table_code-ne0 : goal.returns-then-table_code-ne0
+unfolding refusal first_of
+returns-then-table_code-ne0 c = rw (← c.table_check-table_code.ensures, ne_eqb _ _ c.if-table_code-ne0.true)
+
+pub returns-then-state_code-ne0 : goal.returns-then-state_code-ne0
+unfolding refusal first_of
+returns-then-state_code-ne0 c = rw (← c.table_check-table_code.ensures, eq-eqb _ _ c.if-table_code-ne0.false, ← c.state_check-state_code.ensures, ne_eqb _ _ c.if-state_code-ne0.true)
+
+pub returns : goal.returns
+unfolding refusal first_of
+returns c =
+    rw (← c.table_check-table_code.ensures, eq-eqb _ _ c.if-table_code-ne0.false, ← c.state_check-state_code.ensures, eq-eqb _ _ c.if-state_code-ne0.false, c.input_check.ensures)

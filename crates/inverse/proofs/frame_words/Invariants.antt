@@ -1,0 +1,19 @@
+-- `inverse::frame_words` meets its contract: the first k words are read off.
+use Prim.Native.Nat.{◌-◌, ◌≤◌}
+use mathlib.Core.Path.{◌≡◌, refl, sym, ap, ◌∙◌}
+use mathlib.Core.Logic.{⊎_elim}
+use native.Mathlib.Omega.{arith}
+use lib.IntN.{pos}
+use lib.ListN.{replicate}
+use mir.Syntax.{w16}
+use mir.Val.{to_z}
+use Rattle.laws.specs.Lists.{filled, filled_none, fill, filled_end}
+use Rattle.laws.specs.Back.{came, via}
+use Rattle.inverse.proofs.Parts.{frame_word, first_word, second_word, all_words}
+use Rattle.inverse.proofs.frame_words.Given as goal
+
+abbrev pub invariant-loop-k : goal.invariant-loop-k
+invariant-loop-k l = (l.k ≤ 80) × (l.w ≡ filled (frame_word l.a l.b l.y) l.k (replicate 80 (pos 0)))
+
+abbrev pub decreases-loop-k : goal.decreases-loop-k
+decreases-loop-k l = 80 - l.k
