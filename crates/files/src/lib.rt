@@ -177,8 +177,7 @@ fn put(text: &[u8], room: &mut [u8]) -> usize
     ensures { result ≤ length room.new }
 {
     if text.len() <= room.len() {
-        room[..text.len()].copy_from_slice(text);
-        return text.len();
+        return octets::copy(text, room);
     }
     0
 }

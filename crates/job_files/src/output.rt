@@ -112,20 +112,26 @@ fn check_open(
         &mut tail,
         parts::position(job_step::tail_at(p)).cast_unsigned(),
     );
-    match (first, last) {
-        (Ok(n), Ok(m)) => check_read(
-            rt,
-            t,
-            b,
-            p,
-            call,
-            call_name,
-            name,
-            length,
-            &front[0..n],
-            &tail[0..m],
-        ),
-        (_, Err(e)) | (Err(e), _) => {
+    match last {
+        Ok(m) => match first {
+            Ok(n) => check_read(
+                rt,
+                t,
+                b,
+                p,
+                call,
+                call_name,
+                name,
+                length,
+                &front[0..n],
+                &tail[0..m],
+            ),
+            Err(e) => {
+                files::fail(rt, name, e);
+                false
+            }
+        },
+        Err(e) => {
             files::fail(rt, name, e);
             false
         }

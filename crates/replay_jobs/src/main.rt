@@ -18,7 +18,7 @@ mod word;
 use files::Input;
 use std::io::Print;
 use std::{fs, io};
-use word::{find, number, word};
+use word::{number, word};
 
 // A job, which prints its form.
 fn resume(rt: &HostRuntime, line: &[u8]) {
@@ -66,7 +66,7 @@ fn line(rt: &HostRuntime, text: &[u8], from: usize) -> usize
     requires { from < length text.now }
     ensures { (from < result) × (result ≤ length text.now) }
 {
-    let to = find(text, from, 10);
+    let to = octets::find(text, from, text.len(), 10);
     step(rt, &text[from..to]);
     if to < text.len() { to + 1 } else { to }
 }

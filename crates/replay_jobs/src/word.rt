@@ -1,27 +1,12 @@
 // The words of a step.
 ghost use Rattle.std.specs.Prelude.{◌≤◌, length};
 
-// The place of the first such byte from a place on; the end where there is none.
-pub(crate) fn find(text: &[u8], from: usize, byte: u8) -> usize
-    requires { from ≤ length text.now }
-    ensures { (from ≤ result) × (result ≤ length text.now) }
-{
-    let mut at = from;
-    while at < text.len() {
-        if text[at] == byte {
-            break;
-        }
-        at += 1;
-    }
-    at
-}
-
 // Where the word ends that begins at a place.
 fn end(line: &[u8], from: usize) -> usize
     requires { from ≤ length line.now }
     ensures { (from ≤ result) × (result ≤ length line.now) }
 {
-    find(line, from, b' ')
+    octets::find(line, from, line.len(), b' ')
 }
 
 // The place behind the next blank from a place on; the end where there is none.
