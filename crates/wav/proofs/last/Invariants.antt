@@ -1,0 +1,13 @@
+-- `wav::last` meets its contract: behind each turn one chunk more is passed.
+use mathlib.Core.Path.{◌≡◌}
+use Prim.Native.Nat.{◌-◌, ◌≤◌}
+use native.Mathlib.Omega.{arith}
+use Rattle.laws.specs.Loops.{steps, steps_none, steps_turn}
+use Rattle.wav.specs.Wav.{Inside, next, last}
+use Rattle.wav.proofs.last.Given as goal
+
+abbrev pub invariant-loop-i : goal.invariant-loop-i
+invariant-loop-i l = (l.i ≤ 64) × (l.p ≡ steps (λ k q. next l.bytes q) l.i l.initial.p) × Inside l.bytes l.p
+
+abbrev pub decreases-loop-i : goal.decreases-loop-i
+decreases-loop-i l = 64 - l.i
