@@ -5,14 +5,13 @@ use Rattle.std.proofs.Common.{ap, ◌∙◌, subst, arith, lt_of_le_of_lt, lt_of
 use Rattle.std.specs.Prelude.{Bool, List, ℤ, pos, negsuc, ◌+ℤ◌, ◌*ℤ◌, set, replicate}
 use Rattle.std.proofs.Math.Bool.{true, false}
 use Rattle.std.proofs.Math.Dec.{T}
-use Rattle.std.proofs.Math.IntN.{nat_abs}
 use Rattle.std.specs.Int.Signed.{lt_z, non_neg}
 use borrow.Author.Tests.{ltb-true}
 use Rattle.std.specs.Int.{w16, w32}
 use Rattle.laws.specs.Range.{mag_add, mag_mul}
 use Rattle.laws.specs.Lists.{at}
-use Rattle.laws.specs.Loops.{steps, run, run_none, ended_from}
-use Rattle.basic_op.specs.Ops.{add, mult, shl}
+use Rattle.laws.specs.Loops.{steps, run, ended_from}
+use Rattle.basic_op.specs.Ops.{add, mult}
 use Rattle.fixed.specs.Fixed.{position, pulse, codevector, sharpen}
 
 pub position_lt : (index k : ℕ) → position index k < 40
@@ -61,18 +60,6 @@ module _ (code : List ℤ) (beta : ℤ) {y t0 : ℤ} (e : y ≡ t0) where
       go (pos zero) q = refl
       go (pos (suc n)) q = let h : suc n < 1 = ltb-true (suc n) 1 q in absurd (omega arith)
       go (negsuc n) q = refl
-
-  pub sharpen_is : lt_z y (pos 1) ≡ false → run (add_delayed (nat_abs y) (shl beta (pos 1))) (nat_abs y) (40 - nat_abs y) code ≡ sharpen code t0 beta
-  unfolding sharpen
-  sharpen_is p = rw e (go t0 (rw e at p))
-    where
-      go : (t : ℤ) → lt_z t (pos 1) ≡ false → run (add_delayed (nat_abs t) (shl beta (pos 1))) (nat_abs t) (40 - nat_abs t) code ≡ sharpen code t beta
-      go (pos zero) q = let h : ◌≡◌ {A = Bool} true false = q in absurd (subst T h tt)
-      go (pos (suc n)) q = refl
-      go (negsuc n) q = let h : ◌≡◌ {A = Bool} true false = q in absurd (subst T h tt)
-
-  pub sharpen_far : lt_z y (pos 1) ≡ false → 39 < nat_abs y → code ≡ sharpen code t0 beta
-  sharpen_far p h = ended_from (run (add_delayed (nat_abs y) (shl beta (pos 1))) (nat_abs y)) (40 - nat_abs y) (run_none _ _ code) (omega arith) ∙ sharpen_is p
 
 -- a number that is not below 1 is no negative one
 pub positive : (z : ℤ) → lt_z z (pos 1) ≡ false → T (non_neg z)

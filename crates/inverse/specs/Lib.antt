@@ -1,4 +1,4 @@
--- The inverse of synthesis, and that it gives the excitation of every subframe whose samples are inside their range.
+-- The inverse of synthesis, and its laws; that it gives the excitation of every subframe whose samples are inside their range is in proofs/.
 pub mod Inverse
 pub mod Laws
 pub mod Subframe

@@ -9,7 +9,8 @@ use Rattle.text.specs.Text.{ascii}
 use Rattle.print.specs.Print.{over}
 use Rattle.g711.specs.G711.{a, mu, known, value, byte_of, back}
 use Rattle.g711.specs.Laws.{both}
-use Rattle.g711.specs.Undo.{read_write, write_read}
+use Rattle.g711.specs.Undo.{write_read}
+use Rattle.g711.proofs.Undo.{read_write}
 use Rattle.pcm_line.specs.PcmLine.{pcm_text, pcm_line, samples}
 use Rattle.pcm_line.specs.Laws.{text_taken, samples_text, line_samples, samples_few}
 use Rattle.leg.specs.Leg.{leg_line, bytes_of, answer}

@@ -1,47 +1,55 @@
 -- Laws of a conference: the sum of the others is the whole sum without the leg's own sample, how large the sums are, and what the loops write. Assumes nothing.
 use Rattle.std.specs.Prelude.{◌≡◌, Bool, true, false, cond, ◌&&◌, ℕ, zero, suc, ◌+◌, ◌-◌, ◌*◌, ◌/◌, ◌%◌, ◌≤◌, ◌<◌, eqb, leb, ℤ, pos, nat_abs, ◌+ℤ◌, ◌-ℤ◌, get_or, take, drop, set, replicate}
 use Rattle.std.proofs.Math.Path.{refl}
-use Rattle.std.proofs.Common.{sym, ap, ◌∙◌, add-one, arith, drop_of_length-le, take-suc, take_all, take_at, get_or-take, get_or-drop, drop-drop, eq-eqb, ne_eqb, le-leb, eqb-true, leb-true, SFits}
+use Rattle.std.proofs.Common.{sym, ap, ◌∙◌, add-one, arith, drop_of_length-le, take_all, take_at, get_or-take, get_or-drop, drop-drop, eq-eqb, ne_eqb, le-leb, eqb-true, leb-true, SFits}
 use mathlib.Core.List.{List, [], ◌∷◌, ◌++◌, append-nil, append_assoc}
-use Rattle.std.proofs.Math.IntN.{+ℤ_idl, +ℤ_idr, +ℤ_assoc, +ℤ_comm, +ℤ-neg_ℤ_cancel}
+use Rattle.std.proofs.Math.IntN.{+ℤ_idl, +ℤ_assoc, +ℤ_comm, +ℤ-neg_ℤ_cancel}
 use Rattle.std.proofs.Math.ListN.{length, length-append}
 use Rattle.std.proofs.lemmas.List.{length-map}
-use Rattle.std.proofs.Math.Seq.{drop_at, split_at, drop-append-add, paste, paste-suc}
-use Rattle.std.specs.Int.Signed.{mag, nat_abs-le}
+use Rattle.std.proofs.Math.Seq.{drop_at, split_at, paste, paste-suc}
+use Rattle.std.specs.Int.Signed.{mag}
 use Rattle.std.proofs.lemmas.Bool.{eqb-false}
 use Rattle.std.specs.Int.{w16, w32}
-use Rattle.laws.specs.Lists.{at, tab, at_zeros, length_tab, at_tab, tab_same, upto, length_upto, map_upto}
+use Rattle.laws.specs.Lists.{at, tab, at_zeros, length_tab, at_tab, upto, length_upto, map_upto}
 use Rattle.laws.specs.Loops.{both_hold}
+use Rattle.laws.specs.Perm.{Perm, none, keep, swap, then}
 use Rattle.laws.specs.Range.{mag_abs, mag_add, mag_sub}
-use Rattle.laws.specs.Sums.{abs_add}
 use Rattle.basic_op.specs.Ops.{sat16}
 use Rattle.mix.specs.Mix.{sum, others, heard, mix, frames, legs_of, joined, whole, refusal, mixed, mix_call}
 
 -- ---- sums
 
-pub sum_append : (i : ℕ) (a b : List (List ℤ)) → sum i (a ++ b) ≡ sum i a +ℤ sum i b
-unfolding sum
-sum_append i [] b = sym (+ℤ_idl (sum i b))
-sum_append i (x ∷ a) b = ap (λ (z : ℤ). at x i +ℤ z) (sum_append i a b) ∙ sym (+ℤ_assoc (at x i) (sum i a) (sum i b))
+-- what adds the legs' samples at place i: nothing for no leg, and a leg's sample to what the others have
+pub record Adds (i : ℕ) (s : List (List ℤ) → ℤ) : Type 0 where
+  pub none : s [] ≡ pos 0
+  pub more : (x : List ℤ) (l : List (List ℤ)) → s (x ∷ l) ≡ at x i +ℤ s l
 
 taken_off : (a x b : ℤ) → a +ℤ (x +ℤ b) -ℤ x ≡ a +ℤ b
 taken_off a x b = ap (λ (z : ℤ). a +ℤ z -ℤ x) (+ℤ_comm x b) ∙ ap (λ (z : ℤ). z -ℤ x) (sym (+ℤ_assoc a b x)) ∙ +ℤ-neg_ℤ_cancel (a +ℤ b) x
 
--- the others' sum is the whole sum without the leg's own sample
-pub sum_others : (i k : ℕ) (l : List (List ℤ)) → k < length l → sum i (others k l) ≡ sum i l -ℤ at (get_or l k []) i
-unfolding sum
-sum_others i k l h =
-    let x : List ℤ = get_or l k [] in
-    sum_append i (take k l) (drop (suc k) l)
-    ∙ sym (taken_off (sum i (take k l)) (at x i) (sum i (drop (suc k) l)))
-    ∙ ap (λ (z : ℤ). z -ℤ at x i) (sym (sum_append i (take k l) (x ∷ drop (suc k) l)) ∙ ap (sum i) (sym (split_at l k [] h)))
+module _ (i : ℕ) (s : List (List ℤ) → ℤ) (w : Adds i s) where
+  pub adds_append : (a b : List (List ℤ)) → s (a ++ b) ≡ s a +ℤ s b
+  adds_append [] b = rw w.none (sym (+ℤ_idl (s b)))
+  adds_append (x ∷ a) b =
+      w.more x (a ++ b) ∙ ap (λ (z : ℤ). at x i +ℤ z) (adds_append a b) ∙ sym (+ℤ_assoc (at x i) (s a) (s b)) ∙ ap (λ (z : ℤ). z +ℤ s b) (sym (w.more x a))
 
--- one leg more
-sum_more : (i k : ℕ) (l : List (List ℤ)) → k < length l → sum i (take (k + 1) l) ≡ sum i (take k l) +ℤ at (get_or l k []) i
-unfolding sum
-sum_more i k l h =
-    rw add-one
-    (ap (sum i) (take-suc l k [] h) ∙ sum_append i (take k l) (get_or l k [] ∷ []) ∙ ap (λ (z : ℤ). sum i (take k l) +ℤ z) (+ℤ_idr (at (get_or l k []) i)))
+  pub adds_others : (k : ℕ) (l : List (List ℤ)) → k < length l → s (others k l) ≡ s l -ℤ at (get_or l k []) i
+  adds_others k l h =
+      let x : List ℤ = get_or l k [] in
+      adds_append (take k l) (drop (suc k) l)
+      ∙ sym (taken_off (s (take k l)) (at x i) (s (drop (suc k) l)))
+      ∙ ap (λ (z : ℤ). s (take k l) +ℤ z -ℤ at x i) (sym (w.more x (drop (suc k) l)))
+      ∙ ap (λ (z : ℤ). z -ℤ at x i) (sym (adds_append (take k l) (x ∷ drop (suc k) l)) ∙ ap s (sym (split_at l k [] h)))
+
+  -- in any order of the legs
+  pub adds_perm : {l m : List (List ℤ)} → Perm l m → s l ≡ s m
+  adds_perm none = refl
+  adds_perm (keep {x} {l} {m} p) = w.more x l ∙ ap (λ (z : ℤ). at x i +ℤ z) (adds_perm p) ∙ sym (w.more x m)
+  adds_perm (swap {x} {y} {l}) =
+      let e : s (x ∷ (y ∷ l)) ≡ at x i +ℤ (at y i +ℤ s l) = w.more x (y ∷ l) ∙ ap (λ (z : ℤ). at x i +ℤ z) (w.more y l) in
+      let f : s (y ∷ (x ∷ l)) ≡ at y i +ℤ (at x i +ℤ s l) = w.more y (x ∷ l) ∙ ap (λ (z : ℤ). at y i +ℤ z) (w.more x l) in
+      e ∙ sym (+ℤ_assoc (at x i) (at y i) (s l)) ∙ ap (λ (z : ℤ). z +ℤ s l) (+ℤ_comm (at x i) (at y i)) ∙ +ℤ_assoc (at y i) (at x i) (s l) ∙ sym f
+  adds_perm (then p q) = adds_perm p ∙ adds_perm q
 
 -- ---- legs that are lent one after another
 
@@ -97,13 +105,6 @@ samples_turn l p n s h = record { each = λ i b. go i b (eqb i n) refl }
 pub within_more : (k m : ℕ) (l : List ℤ) → k ≤ m → Within k l → Within m l
 within_more k m l h w = record { each = λ i b. omega (arith, w.each i b) }
 
-within_turn : (k p : ℕ) (t l out : List ℤ) → Within k t → SamplesAt l p 80 → out ≡ tab 80 (λ i. at t i +ℤ at l (p + i)) → Within (k + 1) out
-within_turn k p t l out w s e =
-    record {
-      each = λ i b.
-          rw (e, at_tab (λ i. at t i +ℤ at l (p + i)) 80 i b) (omega (arith, abs_add (at t i) (at l (p + i)), w.each i b, nat_abs-le (at l (p + i)) (s.each i b)));
-    }
-
 -- one sample more, and one less
 pub plus_fits : (a b : ℤ) → nat_abs a ≤ 7 * 32768 → SFits w16 b → SFits w32 (a +ℤ b)
 plus_fits a b h f = record { sfits = omega (arith, mag_add a b 229377 32768 (omega (arith, mag_abs a)) f.sfits) }
@@ -122,19 +123,6 @@ summed_none l = (refl, record { each = λ i b. rw (at_zeros 80 i) (omega arith) 
 
 pub summed_length : (l t : List ℤ) (k : ℕ) → Summed l k t → length t ≡ 80
 summed_length l t k w = ap length w.0 ∙ length_tab 80 (λ i. sum i (take k (legs_of l)))
-
-pub summed_turn : (l t out : List ℤ) (k p : ℕ) → k < length l / 80 → SamplesAt l p 80 → p ≡ 80 * k → Summed l k t → out ≡ tab 80 (λ i. at t i +ℤ at l (p + i)) → Summed l (k + 1) out
-summed_turn l t out k p h s q w e = (
-  e ∙ tab_same 80 (λ i. at t i +ℤ at l (p + i)) (λ i. sum i (take (k + 1) (legs_of l))) go,
-  within_turn k p t l out w.1 s e,
-)
-  where
-    go : (i : ℕ) → i < 80 → at t i +ℤ at l (p + i) ≡ sum i (take (k + 1) (legs_of l))
-    go i b =
-        let f : ℕ → ℤ = λ i. sum i (take k (legs_of l)) in
-        let g : at t i ≡ f i = ap (λ (x : List ℤ). at x i) w.0 ∙ at_tab f 80 i b in
-        let o : at l (p + i) ≡ at (get_or (legs_of l) k []) i = ap (λ (j : ℕ). at l (j + i)) q ∙ sym (sample_at l k i h b) in
-        rw (g, o) (sym (sum_more i k (legs_of l) (omega (arith, length_legs l))))
 
 pub summed_end : (l t : List ℤ) (k : ℕ) → k ≡ length l / 80 → Summed l k t → t ≡ tab 80 (λ i. sum i (legs_of l))
 summed_end l t k h w = w.0 ∙ ap (λ (x : List (List ℤ)). tab 80 (λ i. sum i x)) (take_all k (legs_of l) (omega (arith, length_legs l)))
@@ -164,19 +152,6 @@ unfolding joined
 joined_append [] b = refl
 joined_append (x ∷ a) b = ap (λ (z : List ℤ). x ++ z) (joined_append a b) ∙ sym (append_assoc x (joined a) (joined b))
 
-joined_more : (k : ℕ) (m : List (List ℤ)) → k < length m → joined (take (suc k) m) ≡ joined (take k m) ++ get_or m k []
-unfolding joined
-joined_more k m h = ap joined (take-suc m k [] h) ∙ joined_append (take k m) (get_or m k [] ∷ []) ∙ ap (λ (z : List ℤ). joined (take k m) ++ z) (append-nil (get_or m k []))
-
--- the first k results
-length_results : (l : List (List ℤ)) (k : ℕ) → k ≤ length l → length (joined (take k (mix l))) ≡ 80 * k
-unfolding joined
-length_results l zero h = refl
-length_results l (suc k) h =
-    let e : length (joined (take k (mix l)) ++ get_or (mix l) k []) ≡ 80 * k + 80 =
-    length-append (joined (take k (mix l))) (get_or (mix l) k []) ∙ rw (length_results l k (omega arith), mix_at l k h, length_heard l k) in
-    ap length (joined_more k (mix l) (omega (arith, length_mix l))) ∙ e ∙ omega arith
-
 -- before turn k the first k results are written
 abbrev pub Heard : List ℤ → List ℤ → ℕ → List ℤ → Type 0
 Heard l d k out = out ≡ joined (take k (mix (legs_of l))) ++ drop (80 * k) d
@@ -184,33 +159,6 @@ Heard l d k out = out ≡ joined (take k (mix (legs_of l))) ++ drop (80 * k) d
 pub heard_none : (l d : List ℤ) → Heard l d 0 d
 unfolding joined
 heard_none l d = refl
-
--- what the loop writes of a leg is what it heard
-less_heard : (l t : List ℤ) (k : ℕ) → k < length l / 80 → t ≡ tab 80 (λ i. sum i (legs_of l)) → tab 80 (λ i. sat16 (at t i -ℤ at l (80 * k + i))) ≡ heard (legs_of l) k
-unfolding heard
-less_heard l t k h e = tab_same 80 (λ i. sat16 (at t i -ℤ at l (80 * k + i))) (λ i. sat16 (sum i (others k (legs_of l)))) go
-  where
-    go : (i : ℕ) → i < 80 → sat16 (at t i -ℤ at l (80 * k + i)) ≡ sat16 (sum i (others k (legs_of l)))
-    go i b =
-        let g : at t i ≡ sum i (legs_of l) = ap (λ (x : List ℤ). at x i) e ∙ at_tab (λ i. sum i (legs_of l)) 80 i b in
-        rw (g, ← sample_at l k i h b) (ap sat16 (sym (sum_others i k (legs_of l) (omega (arith, length_legs l)))))
-
-paste_behind : (p q d : List ℤ) (n : ℕ) → length p ≡ n → length q ≡ 80 → paste (p ++ drop n d) n q 80 ≡ p ++ q ++ drop (n + 80) d
-paste_behind p q d n h b =
-    let e : n + 80 ≡ length p + 80 = omega (arith, h) in
-    rw (take_at p (drop n d) n h, take_all 80 q (omega (arith, b))) (ap (λ (z : List ℤ). p ++ q ++ z) (ap (λ (k : ℕ). drop k (p ++ drop n d)) e ∙ drop-append-add p (drop n d) 80 ∙ drop-drop 80 n d))
-
-pub heard_turn : (l t d out r : List ℤ) (k p : ℕ) → k < length l / 80 → p ≡ 80 * k → t ≡ tab 80 (λ i. sum i (legs_of l)) → Heard l d k out
-    → r ≡ paste out p (tab 80 (λ i. sat16 (at t i -ℤ at l (p + i)))) 80 → Heard l d (k + 1) r
-heard_turn l t d out r k p h q e w g =
-    let n : k < length (legs_of l) = omega (arith, length_legs l) in
-    let own : List ℤ = heard (legs_of l) k in
-    let before : List ℤ = joined (take k (mix (legs_of l))) in
-    let place : 80 * k + 80 ≡ 80 * (k + 1) = omega arith in
-    let more : before ++ own ≡ joined (take (k + 1) (mix (legs_of l))) =
-    ap (λ (x : List ℤ). before ++ x) (sym (mix_at (legs_of l) k n)) ∙ sym (joined_more k (mix (legs_of l)) (omega (arith, length_mix (legs_of l)))) ∙ ap (λ (j : ℕ). joined (take j (mix (legs_of l)))) (sym (add-one k)) in
-    g ∙ rw (q, w, less_heard l t k h e)
-    (paste_behind before own d (80 * k) (length_results (legs_of l) k (omega arith)) (length_heard (legs_of l) k) ∙ ap (λ (j : ℕ). before ++ own ++ drop j d) place ∙ ap (λ (x : List ℤ). x ++ drop (80 * (k + 1)) d) more)
 
 pub heard_end : (l d out : List ℤ) (k : ℕ) → k ≡ length l / 80 → length l % 80 ≡ 0 → length d ≡ length l → Heard l d k out → out ≡ joined (mix (legs_of l))
 heard_end l d out k h z b w =
@@ -282,17 +230,6 @@ pub record Done (l d r : List ℤ) : Type 0 where
   pub whole : Whole (length l)
   pub lent : length d ≡ length l
   pub results : r ≡ joined (mix (legs_of l))
-
-pub done : (l d r : List ℤ) → mix_call l d ≡ mixed 0 r → Done l d r
-unfolding mix_call
-done l d r e = go (refusal (length l) (length d)) refl (eqb (refusal (length l) (length d)) 0) refl e
-  where
-    go : (n : ℕ) → n ≡ refusal (length l) (length d) → (t : Bool) → eqb n 0 ≡ t → cond t (mixed 0 (joined (mix (legs_of l)))) (mixed n d) ≡ mixed 0 r → Done l d r
-    go n f true z g =
-        let h = taken l d n f (eqb-true n 0 z) in
-        let q : r ≡ joined (mix (legs_of l)) = cc in
-        record { whole = h.0; lent = h.1; results = q }
-    go n f false z g = let q : n ≡ 0 = cc in absurd (eqb-false n 0 z q)
 
 -- its results, as legs
 pub legs_results : (l d r : List ℤ) → Done l d r → legs_of r ≡ mix (legs_of l)

@@ -1,14 +1,14 @@
--- A greater depth (change request 11): it never makes a played frame lost, so the lost count never grows with it. Assumes nothing.
+-- A greater depth (change request 11): it never makes a played frame lost, so the lost count never grows with it. What that says of a call is in proofs/Depth.antt. Assumes nothing.
 use Rattle.std.specs.Prelude.{◌≡◌, Bool, ◌&&◌, ◌||◌, ℕ, suc, ◌≤◌, ◌<◌, eqb, leb, length, get_or}
 use Rattle.std.proofs.Math.Path.{refl}
-use Rattle.std.proofs.Common.{sym, ap, ◌∙◌, le-leb, leb-true}
+use Rattle.std.proofs.Common.{le-leb, leb-true}
 use Rattle.std.proofs.Math.Bool.{true, false, cond}
 use mathlib.Core.List.{List, [], ◌∷◌, map}
 use native.Mathlib.Omega.{arith}
 use Rattle.laws.specs.Lists.{upto}
 use Rattle.playout.specs.declared.Planned.TheVariants.{Refused, Lost}
 use Rattle.playout.specs.Playout.{Arrival, arrivals, due, arrived, kind, kinds, lost, answer, refusal, playout}
-use Rattle.playout.specs.Laws.{kinds_at, playout_done, done, not_refused}
+use Rattle.playout.specs.Laws.{not_refused}
 
 or_right : (p q : Bool) → q ≡ true → (p || q) ≡ true
 or_right true q f = refl
@@ -59,18 +59,6 @@ pub record Deeper (f s e : ℕ) (ns ts again : List ℕ) (m : ℕ) (ks : List �
   pub given : playout f s e ns ts again ≡ answer (Lost count) after
   pub fewer : count ≤ m
   pub played : (i : ℕ) → i < f → get_or ks i 3 ≡ 0 → get_or after i 3 ≡ 0
-
-pub call_deeper : (f s d e : ℕ) (ns ts before again : List ℕ) (m : ℕ) (ks : List ℕ) → playout f s d ns ts before ≡ answer (Lost m) ks → d ≤ e → length again ≡ length before → Deeper f s e ns ts again m ks
-call_deeper f s d e ns ts before again m ks g h b =
-    let w = done f s d ns ts before m ks g in
-    record {
-      count = lost (kinds s e (arrivals ns ts) f);
-      after = kinds s e (arrivals ns ts) f;
-      given = sym (playout_done f s e ns ts again 0 (rw b (sym w.0)) refl (lost (kinds s e (arrivals ns ts) f)) (kinds s e (arrivals ns ts) f) refl refl);
-      fewer = rw w.1 (fewer s d e h (arrivals ns ts) f);
-      played = λ i c z.
-          kinds_at s e (arrivals ns ts) f i 3 c ∙ deeper s d e h (arrivals ns ts) i (sym (kinds_at s d (arrivals ns ts) f i 3 c) ∙ ap (λ (x : List ℕ). get_or x i 3) (sym w.2) ∙ z);
-    }
 
 -- a refusal is the same at every depth
 pub call_refused : (f s d e : ℕ) (ns ts before : List ℕ) (n : ℕ) → playout f s d ns ts before ≡ answer (Refused n) before → playout f s e ns ts before ≡ answer (Refused n) before

@@ -5,7 +5,7 @@ use Rattle.std.proofs.Common.{◌∙◌, add-one, arith, length-set, take-suc, t
 use Rattle.std.proofs.Math.Bool.{true, false, cond}
 use mathlib.Core.List.{List, [], ◌∷◌, ◌++◌, map}
 use Prim.Native.Nat.{ℕ, zero, suc, ◌+◌, ◌≤◌, ◌<◌, min}
-use Rattle.std.proofs.Math.Dec.{eqb, leb, eqb-suc-zero}
+use Rattle.std.proofs.Math.Dec.{eqb, leb}
 use Rattle.std.proofs.Math.ListN.{length, get_or, length-map}
 use Rattle.std.proofs.Math.Seq.{get_or-set_other, ext_get_or}
 use borrow.Author.Tests.{eqb-true, eqb-false, ne_eqb, eq-eqb, leb-true, le-leb}
@@ -215,29 +215,9 @@ module _ (f s d : ℕ) (ns ts before : List ℕ) (n : ℕ) (e : n ≡ refusal f 
   unfolding playout
   playout_done h m out g q = rw (← e, h, q, g)
 
--- what a call that was not refused has: no refusal, and the count and kinds of the definition
-abbrev planned : Answer Planned → ℕ
-planned (answer (Refused n) ks) = 0
-planned (answer (Lost m) ks) = m
-
-abbrev left : Answer Planned → List ℕ
-left (answer a ks) = ks
-
 abbrev is_refused : Answer Planned → ℕ
 is_refused (answer (Refused n) ks) = 1
 is_refused (answer (Lost m) ks) = 0
 
 pub not_refused : (m n : ℕ) (ks before : List ℕ) → answer (Lost m) ks ≡ answer (Refused n) before → ⊥
 not_refused m n ks before g = let c : ◌≡◌ {A = ℕ} 0 1 = ap is_refused g in absurd (omega arith)
-
-pub done : (f s d : ℕ) (ns ts before : List ℕ) (m : ℕ) (ks : List ℕ) → playout f s d ns ts before ≡ answer (Lost m) ks
-    → (refusal f ns (length ts) (length before) ≡ 0) × (m ≡ lost (kinds s d (arrivals ns ts) f)) × (ks ≡ kinds s d (arrivals ns ts) f)
-unfolding playout
-done f s d ns ts before m ks e = go (refusal f ns (length ts) (length before)) e
-  where
-    after : List ℕ
-    after = kinds s d (arrivals ns ts) f
-
-    go : (n : ℕ) → cond (eqb n 0) (answer (Lost (lost after)) after) (answer (Refused n) before) ≡ answer (Lost m) ks → (n ≡ 0) × (m ≡ lost after) × (ks ≡ after)
-    go zero g = (refl, sym (ap planned g), sym (ap left g))
-    go (suc n) g = absurd (not_refused m (suc n) ks before (sym (rw eqb-suc-zero at g)))

@@ -19,8 +19,10 @@ use Rattle.synth.specs.Synth.{excitation, divide_by_4, reconstruct_exc, reconstr
 use Rattle.synth.specs.Laws.{length_excitation, length_reconstruct_speech}
 use Rattle.inverse.specs.Inverse.{inverse, Inside, inside, bounded, subframe_words, frame_words, shrunk, word}
 use Rattle.inverse.specs.Laws.{inside_each}
-use Rattle.inverse.specs.Window.{LeftByOne, LeftByTwo, length_shrunk, length_words, length_frame_words, two_left}
-use Rattle.inverse.specs.Subframe.{run_word, sample_word, excitation_words, words_same, reconstruct_inverse, words_fit}
+use Rattle.inverse.specs.Window.{LeftByOne, LeftByTwo, length_shrunk, length_words, length_frame_words}
+use Rattle.inverse.proofs.Window.{two_left}
+use Rattle.inverse.specs.Subframe.{run_word, sample_word, excitation_words}
+use Rattle.inverse.proofs.Subframe.{words_same, reconstruct_inverse, words_fit}
 use Rattle.state.specs.State.{Signal}
 use Rattle.parameters.specs.declared.Subframe.{Subframe}
 use Rattle.decoder.specs.Frame.{Buffers, frame_buffers, subframe_signal, frame_signal}

@@ -10,7 +10,8 @@ use Rattle.synth_filter.specs.Filter.{synth_sample, samples, synthesis, overflow
 use Rattle.synth_filter.specs.Fast.{Past}
 use Rattle.synth_filter.specs.FastLaws.{sample_quiet}
 use Rattle.inverse.specs.Inverse.{Inside, inside, bounded}
-use Rattle.inverse.specs.Laws.{bounded_sizes, inside_each, inside_whole}
+use Rattle.inverse.specs.Laws.{bounded_sizes, inside_each}
+use Rattle.inverse.proofs.Laws.{inside_whole}
 use Rattle.inverse.specs.Subframe.{run_word, sample_word}
 
 -- what holds of a word of l, and of all that is written, holds of the word then

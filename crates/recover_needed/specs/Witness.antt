@@ -19,7 +19,8 @@ use Rattle.synth_filter.specs.Fast as fast
 use Rattle.synth.specs.Synth as synth
 use Rattle.inverse.specs.Inverse as inverse
 use Rattle.inverse.specs.Inverse.{bounded, inside, shrunk, Inside}
-use Rattle.inverse.specs.Laws.{inside_each, recovered}
+use Rattle.inverse.specs.Laws.{inside_each}
+use Rattle.inverse.proofs.Laws.{recovered}
 use Rattle.inverse.specs.Subframe.{excitation_words}
 use Rattle.state.specs.declared.Params.{Params}
 use Rattle.state.specs.State as state

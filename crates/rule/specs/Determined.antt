@@ -1,14 +1,14 @@
 -- The rule and the fields together determine the delay, given the one carried into that subframe or, for rule 3, the first subframe's (change request 12): one
--- function, for all numbers. Assumes nothing.
-use Rattle.std.specs.Prelude.{◌+◌, ◌-◌, ◌*◌, ◌/◌, ◌%◌, ◌≡◌, refl, Bool, true, false, ltb, ℤ, pos, ◌+ℤ◌, ◌-ℤ◌}
+-- function, for all numbers. The first subframe's part is proved in proofs/Determined.antt. Assumes nothing.
+use Rattle.std.specs.Prelude.{◌+◌, ◌-◌, ◌*◌, ◌/◌, ◌%◌, ◌≡◌, refl, ℤ, pos, ◌+ℤ◌, ◌-ℤ◌}
 use Rattle.bitstream.specs.declared.SpeechParams.{SpeechParams}
 use Rattle.pitch.specs.declared.Delay.{Delay}
-use Rattle.pitch.specs.Pitch.{parity_ok, decode_t1, decode_t2, carried, increased, first, second, erased, voice_delays, concealed_delays}
+use Rattle.pitch.specs.Pitch.{decode_t2, carried, increased, first, second, erased, voice_delays, concealed_delays}
 use Rattle.plc.specs.declared.Decision.{Decision}
 use Rattle.plc.specs.declared.Decision.TheVariants.{Voice, Concealment}
 use Rattle.rule.specs.declared.Rule.{Rule}
 use Rattle.rule.specs.declared.Rule.TheVariants.{Thirds, Whole, Relative, BadParity, Concealed}
-use Rattle.rule.specs.Rule.{first_rule, rules, delays}
+use Rattle.rule.specs.Rule.{rules, delays}
 
 -- the delay by a rule, from the fields and one number: P1 in thirds or whole (clause 4.1.3, each without the test on P1), P2 relative to the number, or the number itself
 unfoldable pub of_rule : Rule → SpeechParams → ℤ → Delay
@@ -38,19 +38,6 @@ fields Concealment any = any
 unfoldable pub carried_second : Decision → ℤ → ℤ
 carried_second (Voice f) old = (delays (Voice f) old).first.integer
 carried_second Concealment old = (increased old).old
-
-first_voice : (f : SpeechParams) (old t1 : ℤ) → (ok thirds : Bool) → parity_ok f.p1 f.p0 ≡ ok → ltb (f.p1 % 256) 197 ≡ thirds
-    → (delays (Voice f) old).first ≡ of_rule (first_rule f.p1 f.p0) f (given (first_rule f.p1 f.p0) old t1)
-unfolding delays voice_delays first first_rule decode_t1 of_rule given
-first_voice f old t1 true true e h = rw (e, h)
-first_voice f old t1 true false e h = rw (e, h)
-first_voice f old t1 false thirds e h = rw e
-
--- t1 is any number here: the first subframe's rule is never 3
-pub first_determined : (d : Decision) (any : SpeechParams) (old t1 : ℤ) → (delays d old).first ≡ of_rule (rules d).first (fields d any) (given (rules d).first old t1)
-unfolding rules fields delays concealed_delays erased of_rule given
-first_determined (Voice f) any old t1 = first_voice f old t1 (parity_ok f.p1 f.p0) (ltb (f.p1 % 256) 197) refl refl
-first_determined Concealment any old t1 = refl
 
 pub second_determined : (d : Decision) (any : SpeechParams) (old : ℤ)
     → (delays d old).second ≡ of_rule (rules d).second (fields d any) (given (rules d).second (carried_second d old) (delays d old).first.integer)

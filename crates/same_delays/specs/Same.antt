@@ -13,7 +13,8 @@ use Rattle.plc.specs.declared.Decision.TheVariants.{Voice, Concealment}
 use Rattle.plc.specs.Kinds.{decide}
 use Rattle.rule.specs.declared.Report.{Report}
 use Rattle.rule.specs.Rule as rule
-use Rattle.rule.specs.Determined.{of_rule, given, fields, carried_second, first_determined, second_determined}
+use Rattle.rule.specs.Determined.{of_rule, given, fields, carried_second, second_determined}
+use Rattle.rule.proofs.Determined.{first_determined}
 use Rattle.state.specs.declared.Params.{Params}
 use Rattle.state.specs.State.{State, read_params, read, write, fresh_params, fresh, delay_in_range, state_check}
 use Rattle.state.specs.Laws.{read_sized, read_write, fresh_sized, fresh_accepted, accepted_of_check, check_of_accepted, accepted_parts}

@@ -6,7 +6,8 @@ use mir.Syntax.{w16}
 use mir.Val.{to_z, of_z}
 use mir.Facts.{to_z-of_z}
 use Rattle.laws.specs.Back.{came, via}
-use Rattle.fixed.specs.Laws.{sharpen_none, sharpen_is, sharpen_far, positive}
+use Rattle.fixed.specs.Laws.{sharpen_none, positive}
+use Rattle.fixed.proofs.Laws.{sharpen_is, sharpen_far}
 use Rattle.fixed.proofs.sharpen.Goals as goal
 
 pub returns-then-t0-lt1 : goal.returns-then-t0-lt1

@@ -1,7 +1,8 @@
 -- `g711::write` meets its contract: every sample was looked at before the first byte is written.
 use mathlib.Core.Path.{◌≡◌, sym, ◌∙◌, ap}
 use Prim.Native.Nat.{◌≤◌}
-use Rattle.g711.specs.Laws.{taken, bias_le, write_refused, write_none, write_done}
+use Rattle.g711.specs.Laws.{taken, bias_le, write_refused}
+use Rattle.g711.proofs.Laws.{write_none, write_done}
 use Rattle.g711.proofs.write.Goals as goal
 
 pub returns-then-refused-ne0 : goal.returns-then-refused-ne0

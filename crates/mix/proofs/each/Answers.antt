@@ -3,7 +3,8 @@ use Prim.Native.Nat.{◌-◌, ◌/◌, ◌≤◌}
 use mathlib.Core.Path.{◌≡◌, refl}
 use native.Mathlib.Omega.{arith}
 use lib.ListN.{length}
-use Rattle.mix.specs.Laws.{Heard, heard_none, heard_turn, heard_end}
+use Rattle.mix.specs.Laws.{Heard, heard_none, heard_end}
+use Rattle.mix.proofs.Laws.{heard_turn}
 use Rattle.std.proofs.Common.{rules}
 use Rattle.mix.proofs.each.Goals as goal
 

@@ -3,7 +3,8 @@ use Prim.Native.Nat.{◌-◌, ◌/◌, ◌≤◌}
 use mathlib.Core.Path.{◌≡◌, refl}
 use native.Mathlib.Omega.{arith}
 use lib.ListN.{length}
-use Rattle.mix.specs.Laws.{Summed, summed_none, summed_length, summed_turn, summed_end, within_more}
+use Rattle.mix.specs.Laws.{Summed, summed_none, summed_length, summed_end, within_more}
+use Rattle.mix.proofs.Laws.{summed_turn}
 use Rattle.mix.proofs.sums.Given as goal
 
 abbrev pub invariant-loop-k : goal.invariant-loop-k

@@ -1,0 +1,2 @@
+-- Theorems that rest on what sharpening is.
+pub mod Laws

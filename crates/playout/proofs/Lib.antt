@@ -1,0 +1,3 @@
+-- Theorems that rest on what a call of the playout answers.
+pub mod Laws
+pub mod Depth

@@ -1,0 +1,2 @@
+-- Theorems that rest on what the first subframe's rule is.
+pub mod Determined
