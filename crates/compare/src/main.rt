@@ -8,10 +8,12 @@ ghost use Rattle.compare.specs.Held.{Held};
 
 use compare_step::COMPARE_LENGTH;
 use compare_turn::{CALL_ENDS, FAR_ENDS, GO, READ, REFUSE, Standing, Taken, WAIT};
+use files::Input;
 use options::Asked;
 use print::FORM_ROOM;
 use report::forms::ROOM;
 use source::Source;
+use std::fs::File;
 
 const USAGE: [u8; 50] = *b"usage: compare [--tables FILE] CALL FAR [SAMPLES]\n";
 
@@ -26,7 +28,7 @@ const OUT: usize = 65536;
 const MOST: u32 = 4294967295;
 
 // Where the program is: what was counted, both files, which of them lack bytes, what follows, and whether all was written.
-#[derive(Drop)]
+#[derive(Clone, Copy)]
 struct Place {
     at: Standing,
     call: Source,
@@ -36,64 +38,98 @@ struct Place {
     good: bool,
 }
 
-#[derive(Drop)]
+#[derive(Clone, Copy)]
 struct Lacks {
     call: bool,
     far: bool,
 }
 
-// The files by their descriptors; `samples` is below 0 where none is wanted.
+// The open files; there is none of samples where none is wanted.
 #[derive(Drop)]
 struct Files {
-    call: i32,
-    far: i32,
-    samples: i32,
+    call: Input,
+    far: Input,
+    samples: Option<File>,
     form: u32,
 }
 
 // A read, where a file lacks bytes.
-fn filled(lacks: bool, fd: i32, name: &[u8], s: Source, input: &mut [u8]) -> Source
+fn filled(
+    rt: &HostRuntime,
+    lacks: bool,
+    file: &Input,
+    name: &[u8],
+    s: Source,
+    input: &mut [u8],
+) -> Source
     requires { Inside s (length input.old) }
     ensures { Inside result (length input.old) }
 {
     if lacks {
-        return source::fill(fd, name, s, input);
+        return source::fill(rt, file, name, s, input);
     }
     s
 }
 
 // The same of the call, and of the far samples.
-fn call_filled(lacks: bool, fd: i32, name: &[u8], s: Source, input: &mut [u8; CALL]) -> Source
+fn call_filled(
+    rt: &HostRuntime,
+    lacks: bool,
+    file: &Input,
+    name: &[u8],
+    s: Source,
+    input: &mut [u8; CALL],
+) -> Source
     requires { Inside s 16384 }
     ensures { Inside result 16384 }
 {
-    filled(lacks, fd, name, s, input)
+    filled(rt, lacks, file, name, s, input)
 }
 
-fn far_filled(lacks: bool, fd: i32, name: &[u8], s: Source, input: &mut [u8; FAR]) -> Source
+fn far_filled(
+    rt: &HostRuntime,
+    lacks: bool,
+    file: &Input,
+    name: &[u8],
+    s: Source,
+    input: &mut [u8; FAR],
+) -> Source
     requires { Inside s 65536 }
     ensures { Inside result 65536 }
 {
-    filled(lacks, fd, name, s, input)
+    filled(rt, lacks, file, name, s, input)
 }
 
 // Writes what a turn printed.
-fn written(samples: i32, taken: Taken, out: &[u8; OUT], pcm: &[u8; OUT]) -> bool
+fn written(
+    rt: &HostRuntime,
+    samples: &Option<File>,
+    taken: Taken,
+    out: &[u8; OUT],
+    pcm: &[u8; OUT],
+) -> bool
     requires { (taken.written ≤ 65536) × (taken.printed ≤ 65536) }
 {
     let report: &[u8] = out;
     let n = taken.written;
-    let good = files::write(&report[0..n]);
-    if samples < 0 {
-        return good;
-    }
+    let good = files::write(rt, &report[0..n]);
     let computed: &[u8] = pcm;
     let k = taken.printed;
-    let done = io::write_all(samples, &computed[0..k]);
-    if !done {
-        os::fail(b"SAMPLES");
+    match samples {
+        None => good,
+        Some(file) => put(rt, file, &computed[0..k]) & good,
     }
-    good & done
+}
+
+// Writes computed samples. False, with a message, where not all could be written.
+fn put(rt: &HostRuntime, samples: &File, bytes: &[u8]) -> bool {
+    match files::write_all(samples, bytes) {
+        Ok(()) => true,
+        Err(e) => {
+            files::fail(rt, b"SAMPLES", e);
+            false
+        }
+    }
 }
 
 // A turn on what both files have at hand.
@@ -155,7 +191,8 @@ fn decided(
 
 // The same place, with the bytes that its files lacked.
 fn read(
-    f: Files,
+    rt: &HostRuntime,
+    f: &Files,
     p: Place,
     call_name: &[u8],
     far_name: &[u8],
@@ -168,9 +205,9 @@ fn read(
     let at = p.at;
     let lacks = p.lacks;
     let c = p.call;
-    let c = call_filled(lacks.call, f.call, call_name, c, call);
+    let c = call_filled(rt, lacks.call, &f.call, call_name, c, call);
     let d = p.far;
-    let d = far_filled(lacks.far, f.far, far_name, d, far);
+    let d = far_filled(rt, lacks.far, &f.far, far_name, d, far);
     Place {
         at,
         call: c,
@@ -183,9 +220,10 @@ fn read(
 
 // One turn: reads, compares, writes, and what follows.
 fn turn(
+    rt: &HostRuntime,
     t: &[i16; 1880],
     m: &mut [i16; COMPARE_LENGTH],
-    f: Files,
+    f: &Files,
     p: Place,
     call: &[u8; CALL],
     far: &[u8; FAR],
@@ -195,8 +233,8 @@ fn turn(
     requires { Held p }
     ensures { Held result }
 {
-    let taken = turned(t, m, f.form, 0 <= f.samples, p, call, far, out, pcm);
-    let good = written(f.samples, taken, out, pcm);
+    let taken = turned(t, m, f.form, f.samples.is_some(), p, call, far, out, pcm);
+    let good = written(rt, &f.samples, taken, out, pcm);
     let at = taken.at;
     let c = p.call;
     let c = source::used(c, taken.line);
@@ -223,29 +261,29 @@ fn rest(most: u32, more: bool) -> u32
 }
 
 // Prints a form of a report, where those before could be written.
-fn tell(good: bool, form: &[u8; ROOM], n: usize) -> bool {
+fn tell(rt: &HostRuntime, good: bool, form: &[u8; ROOM], n: usize) -> bool {
     let view: &[u8] = form;
     if good && n <= view.len() {
-        return files::write(&view[0..n]);
+        return files::write(rt, &view[0..n]);
     }
     good
 }
 
 // The last forms of a comparison that was not refused: what was counted, the first frame that differs, and which file ended first.
-fn summary(at: Standing, next: u32, good: bool) {
+fn summary(rt: &HostRuntime, at: Standing, next: u32, good: bool) {
     let mut form = [0u8; ROOM];
     let tally = at.tally;
     let first = at.first;
     let counts = tally.counts;
     let n = report::forms::total(tally, &mut form);
-    let mut good = tell(good, &form, n);
+    let mut good = tell(rt, good, &form, n);
     if first.frame != 0 {
         let n = report::forms::fault(first, &mut form);
-        good = tell(good, &form, n);
+        good = tell(rt, good, &form, n);
     }
     if (next == FAR_ENDS) | (next == CALL_ENDS) {
         let n = report::forms::ends(next == FAR_ENDS, counts.frames, &mut form);
-        tell(good, &form, n);
+        tell(rt, good, &form, n);
     }
 }
 
@@ -258,7 +296,7 @@ fn refusal(code: u32, next: u32) -> u32 {
 }
 
 // The end of the last stretch; then the summary, or the form of a refusal, as `decode` prints it.
-fn finish(p: Place) {
+fn finish(rt: &HostRuntime, p: Place) {
     let at = p.at;
     let tally = at.tally;
     let counts = tally.counts;
@@ -267,23 +305,24 @@ fn finish(p: Place) {
     if stretch.from != 0 {
         let mut form = [0u8; ROOM];
         let n = report::forms::stretch(stretch, counts.frames, &mut form);
-        good = tell(true, &form, n);
+        good = tell(rt, true, &form, n);
     }
     let code = refusal(at.code, p.next);
     if code == 0 {
-        summary(at, p.next, good);
+        summary(rt, at, p.next, good);
         return;
     }
     let mut form = [0u8; FORM_ROOM];
     let n = print::refused(code, line_step::one_more(counts.frames), &mut form);
-    files::print(&form, n);
+    files::print(rt, &form, n);
 }
 
 // The whole of both files, from what is at hand of the far one. Each turn but the last takes bytes of a file, of which a call's longest line and its most frames limit the number.
 fn compare(
+    rt: &HostRuntime,
     t: &[i16; 1880],
     m: &mut [i16; COMPARE_LENGTH],
-    f: Files,
+    f: &Files,
     start: Source,
     call_name: &[u8],
     far_name: &[u8],
@@ -297,12 +336,12 @@ fn compare(
     let mut p = before(start);
     let mut most: u32 = MOST;
     while 0 < most {
-        let q = read(f, p, call_name, far_name, &mut call, far);
-        p = turn(t, m, f, q, &call, far, &mut out, &mut pcm);
+        let q = read(rt, f, p, call_name, far_name, &mut call, far);
+        p = turn(rt, t, m, f, q, &call, far, &mut out, &mut pcm);
         most = rest(most, goes_on(p));
     }
     if p.good {
-        finish(p);
+        finish(rt, p);
     }
 }
 
@@ -327,22 +366,22 @@ fn before(start: Source) -> Place
 }
 
 // The first bytes of the far file: its form, and its samples at hand. Not good, with the reason on standard error, where it is a WAV file of another kind.
-fn opening(fd: i32, name: &[u8], far: &mut [u8; FAR]) -> Begun
+fn opening(rt: &HostRuntime, file: &Input, name: &[u8], far: &mut [u8; FAR]) -> Begun
     ensures { Inside result.source 65536 }
 {
-    let n = io::read_full(fd, far);
-    first(name, far, n)
+    let n = files::read_full(file, far);
+    first(rt, name, far, n)
 }
 
 // A far file's form, and its samples at hand.
-#[derive(Drop)]
+#[derive(Clone, Copy)]
 struct Begun {
     form: u32,
     source: Source,
 }
 
 // The same of the n bytes that were read.
-fn first(name: &[u8], far: &[u8], n: usize) -> Begun
+fn first(rt: &HostRuntime, name: &[u8], far: &[u8], n: usize) -> Begun
     requires { n ≤ length far.now }
     ensures { Inside result.source (length far.now) }
 {
@@ -357,6 +396,7 @@ fn first(name: &[u8], far: &[u8], n: usize) -> Begun
     Begun {
         form,
         source: source::wave(
+            rt,
             name,
             bytes,
             wav::PCM,
@@ -366,45 +406,38 @@ fn first(name: &[u8], far: &[u8], n: usize) -> Begun
     }
 }
 
-// A file that is read, by name: below 0, with a message, where it can't be opened.
-fn open(name: &[u8]) -> i32 {
-    let fd = os::open_read(name);
-    if fd < 0 {
-        os::fail(name);
+// The file of the computed samples, which must be new: nothing is overwritten. None, with a message, where it can't be made.
+fn made(rt: &HostRuntime, name: &[u8]) -> Option<File> {
+    match files::create(rt, name) {
+        Ok(file) => Some(file),
+        Err(e) => {
+            files::fail(rt, name, e);
+            None
+        }
     }
-    fd
 }
 
-// The file of the computed samples, which must be new: nothing is overwritten. 0 - 2 where none is wanted, 0 - 1, with a message, where it can't be made.
-fn made(wanted: bool, name: &[u8]) -> i32 {
-    if !wanted {
-        return -2;
-    }
-    let fd = os::create(name);
-    if fd < 0 {
-        os::fail(name);
-        return -1;
-    }
-    fd
-}
-
-// The files are opened, the far one's form is told, and then the samples' file is made.
-fn run(t: &[i16; 1880], call_name: &[u8], far_name: &[u8], wanted: bool, name: &[u8]) {
+// The far file's form is told, and then the samples' file is made.
+fn run_open(
+    rt: &HostRuntime,
+    t: &[i16; 1880],
+    call: Input,
+    far: Input,
+    call_name: &[u8],
+    far_name: &[u8],
+    wanted: bool,
+    name: &[u8],
+) {
     let mut m = [0i16; COMPARE_LENGTH];
     compare_step::begin(t, &mut m);
     let mut bytes = [0u8; FAR];
-    let call = open(call_name);
-    let far = open(far_name);
-    if (call < 0) | (far < 0) {
-        return;
-    }
-    let b = opening(far, far_name, &mut bytes);
+    let b = opening(rt, &far, far_name, &mut bytes);
     let source = b.source;
     if !source.good {
         return;
     }
-    let samples = made(wanted, name);
-    if samples == -1 {
+    let samples = if wanted { made(rt, name) } else { None };
+    if wanted & samples.is_none() {
         return;
     }
     let f = Files {
@@ -413,35 +446,54 @@ fn run(t: &[i16; 1880], call_name: &[u8], far_name: &[u8], wanted: bool, name: &
         samples,
         form: b.form,
     };
-    compare(t, &mut m, f, source, call_name, far_name, &mut bytes);
+    compare(rt, t, &mut m, &f, source, call_name, far_name, &mut bytes);
+}
+
+// The files are opened, and compared where both could be.
+fn run(
+    rt: &HostRuntime,
+    t: &[i16; 1880],
+    call_name: &[u8],
+    far_name: &[u8],
+    wanted: bool,
+    name: &[u8],
+) {
+    let call = files::opened(rt, call_name);
+    let far = files::opened(rt, far_name);
+    if let Some(call) = call {
+        if let Some(far) = far {
+            run_open(rt, t, call, far, call_name, far_name, wanted, name);
+        }
+    }
 }
 
 // The tables are checked before the files are opened.
-fn checked(a: Asked, tables: &[u8], t: &mut [i16; 1880]) {
+fn checked(rt: &HostRuntime, a: Asked, tables: &[u8], t: &mut [i16; 1880]) {
     let mut state = [0i16; 234];
-    let known = files::tables(tables, t, &mut state);
+    let known = files::tables(rt, tables, t, &mut state);
     if known.code != 0 {
         let mut form = [0u8; FORM_ROOM];
         let n = print::refused(known.code, 0, &mut form);
-        files::print(&form, n);
+        files::print(rt, &form, n);
         return;
     }
-    let mut call = io::buffer();
-    let mut far = io::buffer();
-    let mut samples = io::buffer();
-    let n = files::argument(a.first, b"", &mut call);
-    let k = files::argument(a.second, b"", &mut far);
-    let s = files::argument(a.third, b"", &mut samples);
-    run(t, &call[0..n], &far[0..k], a.third != 0, &samples[0..s]);
+    let mut call = [0u8; 4096];
+    let mut far = [0u8; 4096];
+    let mut samples = [0u8; 4096];
+    let n = files::argument(rt, a.first, b"", &mut call);
+    let k = files::argument(rt, a.second, b"", &mut far);
+    let s = files::argument(rt, a.third, b"", &mut samples);
+    run(rt, t, &call[0..n], &far[0..k], a.third != 0, &samples[0..s]);
 }
 
-fn main() {
-    if !files::standard_open() {
+fn main(rt: HostRuntime) {
+    if !files::standard_open(&rt) {
         return;
     }
-    let a = files::asked(2, 3);
+    let a = files::asked(&rt, 2, 3);
     let usage = USAGE;
     let done = files::answered(
+        &rt,
         a,
         b"compare",
         &usage,
@@ -450,8 +502,8 @@ fn main() {
     if done {
         return;
     }
-    let mut tables = io::buffer();
-    let n = files::argument(a.tables, b"tables.g729", &mut tables);
+    let mut tables = [0u8; 4096];
+    let n = files::argument(&rt, a.tables, b"tables.g729", &mut tables);
     let mut t = [0i16; 1880];
-    checked(a, &tables[0..n], &mut t);
+    checked(&rt, a, &tables[0..n], &mut t);
 }

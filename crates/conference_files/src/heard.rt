@@ -2,6 +2,7 @@
 ghost use Rattle.std.specs.Prelude.{◌≡◌, ◌*◌, ◌<◌, ◌≤◌, length};
 
 use crate::{FRAME, LEGS, SAMPLES, paths};
+use std::fs::File;
 use wav::HEADER;
 
 // How many frames of each leg are written at once; the bytes of a frame, of so many and of those of all legs.
@@ -17,61 +18,74 @@ pub(crate) const ROOM: usize = LEGS * PART;
 pub(crate) const MOST: u32 = 26843545;
 
 // Writes to what a leg heard. False, with a message, where not all could be written.
-fn put(fd: i32, name: &[u8], bytes: &[u8]) -> bool {
-    let done = io::write_all(fd, bytes);
-    if !done {
-        os::fail(name);
+fn put(rt: &HostRuntime, file: &File, name: &[u8], bytes: &[u8]) -> bool {
+    match files::write_all(file, bytes) {
+        Ok(()) => true,
+        Err(e) => {
+            files::fail(rt, name, e);
+            false
+        }
     }
-    done
 }
 
 // Its header, with so many frames behind it.
-fn put_header(fd: i32, name: &[u8], frames: u32) -> bool
+fn put_header(rt: &HostRuntime, file: &File, name: &[u8], frames: u32) -> bool
     requires { frames ≤ 26843545 }
 {
     let mut head = [0u8; HEADER];
     wav::header(wav::PCM, 16, 160 * frames, &mut head);
-    put(fd, name, &head)
+    put(rt, file, name, &head)
 }
 
 // Removes what a leg heard.
-fn unlink(name: &[u8]) {
-    if os::unlink(name) < 0 {
-        os::fail(name);
+fn unlink(rt: &HostRuntime, name: &[u8]) {
+    if let Err(e) = files::remove(rt, name) {
+        files::fail(rt, name, e);
     }
 }
 
-// Makes what leg k heard, which must be new, with a header that says more than it will have, so that a file that a killed run leaves is seen to be cut. Below 0, with a message, where it can't be made, and it is not left where it can't be written.
-fn create(names: &[u8], k: usize) -> i32
+// The header of a new file, that says more than it will have, so that a file that a killed run leaves is seen to be cut. None, with a message, where it can't be written: the file is not left.
+fn begun(rt: &HostRuntime, file: File, name: &[u8]) -> Option<File> {
+    if put_header(rt, &file, name, MOST) {
+        return Some(file);
+    }
+    drop(file);
+    unlink(rt, name);
+    None
+}
+
+// Makes what leg k heard, which must be new. None, with a message, where it can't be made, and it is not left where it can't be written.
+fn create(rt: &HostRuntime, names: &[u8], k: usize) -> Option<File>
     requires { k < 8 }
 {
-    let mut name = io::buffer();
+    let mut name = [0u8; 4096];
     let n = paths::heard(names, k, &mut name);
-    let fd = os::create(&name[0..n]);
-    if fd < 0 {
-        os::fail(&name[0..n]);
-        return -1;
+    match files::create(rt, &name[0..n]) {
+        Ok(file) => begun(rt, file, &name[0..n]),
+        Err(e) => {
+            files::fail(rt, &name[0..n], e);
+            None
+        }
     }
-    if put_header(fd, &name[0..n], MOST) {
-        return fd;
-    }
-    libc::close(fd);
-    unlink(&name[0..n]);
-    -1
 }
 
 // Makes what the first n legs heard; answers how many were made, fewer where one can't be.
-pub(crate) fn make(names: &[u8], n: usize, fds: &mut [i32; LEGS]) -> usize
+pub(crate) fn make(
+    rt: &HostRuntime,
+    names: &[u8],
+    n: usize,
+    outs: &mut [Option<File>; LEGS],
+) -> usize
     requires { n ≤ 8 }
     ensures { result ≤ n }
 {
     let mut k = 0;
     while k < n {
-        let fd = create(names, k);
-        if fd < 0 {
+        let file = create(rt, names, k);
+        if file.is_none() {
             return k;
         }
-        fds[k] = fd;
+        outs[k] = file;
         k += 1;
     }
     k
@@ -117,22 +131,30 @@ pub(crate) fn add(n: usize, behind: usize, samples: &[i16; SAMPLES], held: &mut 
 }
 
 // Writes so many frames that leg k heard.
-fn write(names: &[u8], k: usize, fd: i32, frames: usize, held: &[u8; ROOM]) -> bool
+fn write(
+    rt: &HostRuntime,
+    names: &[u8],
+    k: usize,
+    file: &File,
+    frames: usize,
+    held: &[u8; ROOM],
+) -> bool
     requires { (k < 8) × (frames ≤ 100) }
 {
-    let mut name = io::buffer();
+    let mut name = [0u8; 4096];
     let n = paths::heard(names, k, &mut name);
     let view: &[u8] = held;
     let from = k * PART;
     let to = from + frames * BYTES;
-    put(fd, &name[0..n], &view[from..to])
+    put(rt, file, &name[0..n], &view[from..to])
 }
 
 // Writes so many frames of each of the first n legs. False, with a message, where one can't be written.
 pub(crate) fn write_all(
+    rt: &HostRuntime,
     names: &[u8],
     n: usize,
-    fds: &[i32; LEGS],
+    outs: &[Option<File>; LEGS],
     frames: usize,
     held: &[u8; ROOM],
 ) -> bool
@@ -142,7 +164,10 @@ pub(crate) fn write_all(
     let mut k = 0;
     while k < n {
         if good {
-            good = write(names, k, fds[k], frames, held);
+            good = match &outs[k] {
+                Some(file) => write(rt, names, k, file, frames, held),
+                None => false,
+            };
         }
         k += 1;
     }
@@ -152,76 +177,60 @@ pub(crate) fn write_all(
 // ---- the end
 
 // The header of what leg k heard, now that its length is known.
-fn rewrite(names: &[u8], k: usize, fd: i32, frames: u32) -> bool
+fn rewrite(rt: &HostRuntime, names: &[u8], k: usize, file: &File, frames: u32) -> bool
     requires { (k < 8) × (frames ≤ 26843545) }
 {
-    let mut name = io::buffer();
+    let mut name = [0u8; 4096];
     let n = paths::heard(names, k, &mut name);
-    if libc::lseek(fd, 0, libc::SEEK_SET) != 0 {
-        os::fail(&name[0..n]);
-        return false;
+    match files::to_start(file) {
+        Ok(()) => put_header(rt, file, &name[0..n], frames),
+        Err(e) => {
+            files::fail(rt, &name[0..n], e);
+            false
+        }
     }
-    put_header(fd, &name[0..n], frames)
 }
 
 // The headers of the first n legs. False, with a message, where one can't be written.
-pub(crate) fn rewrite_all(names: &[u8], n: usize, fds: &[i32; LEGS], frames: u32) -> bool
+pub(crate) fn rewrite_all(
+    rt: &HostRuntime,
+    names: &[u8],
+    n: usize,
+    outs: &[Option<File>; LEGS],
+    frames: u32,
+) -> bool
     requires { (n ≤ 8) × (frames ≤ 26843545) }
 {
     let mut good = true;
     let mut k = 0;
     while k < n {
         if good {
-            good = rewrite(names, k, fds[k], frames);
+            good = match &outs[k] {
+                Some(file) => rewrite(rt, names, k, file, frames),
+                None => false,
+            };
         }
         k += 1;
     }
     good
 }
 
-// Closes what leg k heard. False, with a message, where the system could not keep what was written.
-fn close(names: &[u8], k: usize, fd: i32) -> bool
-    requires { k < 8 }
-{
-    let closed = libc::close(fd);
-    if closed < 0 {
-        let mut name = io::buffer();
-        let n = paths::heard(names, k, &mut name);
-        os::fail(&name[0..n]);
-        return false;
-    }
-    true
-}
-
-// Closes the first n.
-pub(crate) fn close_all(names: &[u8], n: usize, fds: &[i32; LEGS]) -> bool
-    requires { n ≤ 8 }
-{
-    let mut good = true;
-    let mut k = 0;
-    while k < n {
-        good = close(names, k, fds[k]) & good;
-        k += 1;
-    }
-    good
-}
-
 // Removes what leg k heard.
-fn remove(names: &[u8], k: usize)
+fn remove(rt: &HostRuntime, names: &[u8], k: usize)
     requires { k < 8 }
 {
-    let mut name = io::buffer();
+    let mut name = [0u8; 4096];
     let n = paths::heard(names, k, &mut name);
-    unlink(&name[0..n]);
+    unlink(rt, &name[0..n]);
 }
 
 // Removes the first n.
-pub(crate) fn remove_all(names: &[u8], n: usize)
+pub(crate) fn remove_all(rt: &HostRuntime, names: &[u8], n: usize)
     requires { n ≤ 8 }
 {
     let mut k = 0;
     while k < n {
-        remove(names, k);
+        remove(rt, names, k);
         k += 1;
     }
 }

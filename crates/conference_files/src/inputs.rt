@@ -4,7 +4,7 @@ ghost use Rattle.source.specs.Source.{Inside};
 ghost use Rattle.conference_files.specs.Held.{All};
 
 use crate::{FRAME, LEGS, MOST, SAMPLES, paths, rest};
-use libc::STDERR_FILENO;
+use files::Input;
 use source::{ROOM, Source};
 
 // The bytes of a frame of words, the most that one of bytes or words has.
@@ -38,7 +38,7 @@ const OTHER_TOTAL: u32 = 10;
 const REFUSED: u32 = 11;
 
 // A leg: its form, its bytes at hand, what may follow, the lines and the samples of a printed one, and whether a turn is needed before its next frame is there.
-#[derive(Drop)]
+#[derive(Clone, Copy)]
 pub(crate) struct Leg {
     pub form: u32,
     pub source: Source,
@@ -155,16 +155,31 @@ fn form_of(bytes: &[u8]) -> u32 {
 }
 
 // What is at hand of a WAV file of this form.
-fn wave(form: u32, name: &[u8], bytes: &[u8]) -> Source
+fn wave(rt: &HostRuntime, form: u32, name: &[u8], bytes: &[u8]) -> Source
     ensures { Inside result (length bytes.now) }
 {
     if form == leg_frame::A {
-        return source::wave(name, bytes, wav::A_LAW, 8, b"A-law of 8 bits (format 6)");
+        return source::wave(
+            rt,
+            name,
+            bytes,
+            wav::A_LAW,
+            8,
+            b"A-law of 8 bits (format 6)",
+        );
     }
     if form == leg_frame::MU {
-        return source::wave(name, bytes, wav::MU_LAW, 8, b"mu-law of 8 bits (format 7)");
+        return source::wave(
+            rt,
+            name,
+            bytes,
+            wav::MU_LAW,
+            8,
+            b"mu-law of 8 bits (format 7)",
+        );
     }
     source::wave(
+        rt,
         name,
         bytes,
         wav::PCM,
@@ -174,7 +189,7 @@ fn wave(form: u32, name: &[u8], bytes: &[u8]) -> Source
 }
 
 // A leg of which n bytes were read and whose law was given, or NONE.
-fn told(given: u32, name: &[u8], input: &[u8], n: usize) -> Leg
+fn told(rt: &HostRuntime, given: u32, name: &[u8], input: &[u8], n: usize) -> Leg
     requires { n ≤ length input.now }
     ensures { Inside result.source (length input.now) }
 {
@@ -186,20 +201,20 @@ fn told(given: u32, name: &[u8], input: &[u8], n: usize) -> Leg
         } else {
             given
         };
-        return begun(held, wave(held, name, bytes));
+        return begun(held, wave(rt, held, name, bytes));
     }
     if given == leg_frame::NONE {
         return begun(form, source::raw(n));
     }
     if form == leg_frame::PRINTED {
-        files::say(name, b"printed samples; give them without a law");
+        files::say(rt, name, b"printed samples; give them without a law");
         return refused(source::raw(n));
     }
     begun(given, source::raw(n))
 }
 
 // A leg whose form isn't known is refused; a read tells whether it could be read at all.
-fn checked(fd: i32, name: &[u8], l: Leg, input: &mut [u8]) -> Leg
+fn checked(rt: &HostRuntime, file: &Input, name: &[u8], l: Leg, input: &mut [u8]) -> Leg
     requires { Inside l.source (length input.old) }
     ensures { Inside result.source (length input.old) }
 {
@@ -208,11 +223,12 @@ fn checked(fd: i32, name: &[u8], l: Leg, input: &mut [u8]) -> Leg
     }
     let s = l.source;
     let empty = s.to == 0;
-    let s = source::fill(fd, name, source::unread(), input);
+    let s = source::fill(rt, file, name, source::unread(), input);
     if s.good & empty {
-        files::say(name, b"empty");
+        files::say(rt, name, b"empty");
     } else if s.good {
         files::say(
+            rt,
             name,
             b"neither printed samples nor a WAV file; G.711 bytes are given with their law, as a:FILE or mu:FILE",
         );
@@ -221,30 +237,26 @@ fn checked(fd: i32, name: &[u8], l: Leg, input: &mut [u8]) -> Leg
 }
 
 // Leg k, open: its first bytes and what it is.
-fn first(fd: i32, names: &[u8], k: usize, input: &mut [u8]) -> Leg
+fn first(rt: &HostRuntime, file: &Input, names: &[u8], k: usize, input: &mut [u8]) -> Leg
     requires { k < 8 }
     ensures { Inside result.source (length input.old) }
 {
     let name = file_name(names, k);
-    let n = io::read_full(fd, input);
-    let l = told(law(paths::word(names, k + 1)), name, input, n);
-    checked(fd, name, l, input)
+    let n = files::read_full(file, input);
+    let l = told(rt, law(paths::word(names, k + 1)), name, input, n);
+    checked(rt, file, name, l, input)
 }
 
-// Leg k's file. Below 0, with a message, where it can't be opened.
-fn open_file(names: &[u8], k: usize) -> i32
+// Leg k's file. None, with a message, where it can't be opened.
+fn open_file(rt: &HostRuntime, names: &[u8], k: usize) -> Option<Input>
     requires { k < 8 }
 {
     let name = file_name(names, k);
     if name.len() == 0 {
-        files::say(b"conference", b"no name behind a: or mu:");
-        return -1;
+        files::say(rt, b"conference", b"no name behind a: or mu:");
+        return None;
     }
-    let fd = os::open_read(name);
-    if fd < 0 {
-        os::fail(name);
-    }
-    fd
+    files::opened(rt, name)
 }
 
 // Before a leg is opened, and where it can't be.
@@ -262,20 +274,26 @@ pub(crate) fn unopened() -> Leg
     }
 }
 
-// Leg k by its descriptor; one that could not be opened has failed.
-fn opened(fd: i32, names: &[u8], k: usize, input: &mut [u8]) -> Leg
+// Leg k by its file; one that could not be opened has failed.
+fn opened(rt: &HostRuntime, file: &Option<Input>, names: &[u8], k: usize, input: &mut [u8]) -> Leg
     requires { (k < 8) × (length input.old ≡ 524288) }
     ensures { Inside result.source 65536 }
 {
-    if fd < 0 {
-        return unopened();
-    }
     let from = k * ROOM;
-    first(fd, names, k, &mut input[from..from + ROOM])
+    match file {
+        Some(file) => first(rt, file, names, k, &mut input[from..from + ROOM]),
+        None => unopened(),
+    }
 }
 
 // The first n legs, open, each with its first bytes in its part of `input`. Those behind one that failed are not opened, and so have failed too.
-pub(crate) fn begin(names: &[u8], n: usize, fds: &mut [i32; LEGS], input: &mut [u8]) -> [Leg; LEGS]
+pub(crate) fn begin(
+    rt: &HostRuntime,
+    names: &[u8],
+    n: usize,
+    ins: &mut [Option<Input>; LEGS],
+    input: &mut [u8],
+) -> [Leg; LEGS]
     requires { (n ≤ 8) × (length input.old ≡ 524288) }
     ensures { All result }
 {
@@ -283,9 +301,8 @@ pub(crate) fn begin(names: &[u8], n: usize, fds: &mut [i32; LEGS], input: &mut [
     let mut legs = [none; LEGS];
     let mut k = 0;
     while k < n {
-        let fd = open_file(names, k);
-        fds[k] = fd;
-        let l = opened(fd, names, k, input);
+        ins[k] = open_file(rt, names, k);
+        let l = opened(rt, &ins[k], names, k, input);
         legs[k] = l;
         if l.next == FAILED {
             return legs;
@@ -298,33 +315,40 @@ pub(crate) fn begin(names: &[u8], n: usize, fds: &mut [i32; LEGS], input: &mut [
 // ---- the next frame
 
 // Why leg k is refused at its next line.
-fn refuse(names: &[u8], k: usize, line: u32, why: u32)
+fn refuse(rt: &HostRuntime, names: &[u8], k: usize, line: u32, why: u32)
     requires { k < 8 }
 {
     let name = file_name(names, k);
     let line = line_step::one_more(line);
     // The name of a pipe needn't be the one that was typed.
-    io::write_all(STDERR_FILENO, b"leg ");
-    io::print_decimal(STDERR_FILENO, k as u64 + 1);
-    io::write_all(STDERR_FILENO, b", ");
+    files::tell(rt, b"leg ");
+    files::tell_number(rt, k as u64 + 1);
+    files::tell(rt, b", ");
     if why == REFUSED {
-        files::say_line(name, line, b"this call was refused when it was decoded");
+        files::say_line(rt, name, line, b"this call was refused when it was decoded");
     } else if why == BEHIND {
-        files::say_line(name, line, b"bytes behind the total");
+        files::say_line(rt, name, line, b"bytes behind the total");
     } else if why == BEHIND_SHORT {
-        files::say_line(name, line, b"samples behind a line of fewer than 80");
+        files::say_line(rt, name, line, b"samples behind a line of fewer than 80");
     } else if why == OTHER_TOTAL {
         files::say_line(
+            rt,
             name,
             line,
             b"the total of another number of samples; some may be missing",
         );
     } else if why == NO_FEED {
-        files::say_line(name, line, b"the last line has no line feed; it may be cut");
+        files::say_line(
+            rt,
+            name,
+            line,
+            b"the last line has no line feed; it may be cut",
+        );
     } else if why == NO_TOTAL {
-        files::say_line(name, line, b"no total at the end; it may be cut");
+        files::say_line(rt, name, line, b"no total at the end; it may be cut");
     } else {
         files::say_line(
+            rt,
             name,
             line,
             b"neither `(pcm H)` with four hexadecimal digits, 0-9 and a-f, for each of 1 to 80 samples nor a total",
@@ -333,13 +357,13 @@ fn refuse(names: &[u8], k: usize, line: u32, why: u32)
 }
 
 // What follows; a refusal is told, and is then a failure.
-fn decided(names: &[u8], k: usize, line: u32, next: u32) -> u32
+fn decided(rt: &HostRuntime, names: &[u8], k: usize, line: u32, next: u32) -> u32
     requires { k < 8 }
 {
     if next <= FAILED {
         return next;
     }
-    refuse(names, k, line, next);
+    refuse(rt, names, k, line, next);
     FAILED
 }
 
@@ -381,17 +405,25 @@ fn behind_last(next: u32, left: usize, ended: bool) -> u32 {
 }
 
 // A read.
-fn read(fd: i32, names: &[u8], k: usize, l: Leg, input: &mut [u8]) -> Leg
+fn read(rt: &HostRuntime, file: &Input, names: &[u8], k: usize, l: Leg, input: &mut [u8]) -> Leg
     requires { k < 8 }
     ensures { Inside result.source (length input.old) }
 {
     let s = l.source;
-    let s = source::fill(fd, file_name(names, k), s, input);
+    let s = source::fill(rt, file, file_name(names, k), s, input);
     with_source(l, s, if s.good { l.next } else { FAILED }, s.good)
 }
 
 // The line of a printed leg that ends before a place.
-fn take(names: &[u8], k: usize, l: Leg, end: usize, input: &[u8], frame: &mut [i16; FRAME]) -> Leg
+fn take(
+    rt: &HostRuntime,
+    names: &[u8],
+    k: usize,
+    l: Leg,
+    end: usize,
+    input: &[u8],
+    frame: &mut [i16; FRAME],
+) -> Leg
     requires { (k < 8) × (Inside l.source (length input.now) × ((l.source.from ≤ end) × (end < l.source.to))) }
     ensures { Inside result.source (length input.now) }
 {
@@ -399,6 +431,7 @@ fn take(names: &[u8], k: usize, l: Leg, end: usize, input: &[u8], frame: &mut [i
     let from = s.from;
     let line = leg_frame::line(l.samples, &input[from..end], frame);
     let next = decided(
+        rt,
         names,
         k,
         l.lines,
@@ -410,14 +443,15 @@ fn take(names: &[u8], k: usize, l: Leg, end: usize, input: &[u8], frame: &mut [i
         source: left,
         next,
         lines: line_step::one_more(l.lines),
-        samples: std::num::wrapping_add_u32(l.samples, line.samples as u32),
+        samples: l.samples.wrapping_add(line.samples as u32),
         more: next == END,
     }
 }
 
 // One turn of a printed leg: its next line, or a read where there is no whole one.
 fn printed(
-    fd: i32,
+    rt: &HostRuntime,
+    file: &Input,
     names: &[u8],
     k: usize,
     l: Leg,
@@ -428,26 +462,27 @@ fn printed(
     ensures { Inside result.source (length input.old) }
 {
     let s = l.source;
-    let end = bytes::scan::find(input, s.from, s.to, 10);
+    let end = octets::find(input, s.from, s.to, 10);
     if end < s.to {
-        return take(names, k, l, end, input, frame);
+        return take(rt, names, k, l, end, input, frame);
     }
     let left = s.to - s.from;
     if !s.ended & (left < input.len()) {
-        return read(fd, names, k, l, input);
+        return read(rt, file, names, k, l, input);
     }
-    let next = decided(names, k, l.lines, behind_last(l.next, left, s.ended));
+    let next = decided(rt, names, k, l.lines, behind_last(l.next, left, s.ended));
     with_next(l, next, false)
 }
 
 // The end of a leg of bytes or words.
-fn ended(names: &[u8], k: usize, l: Leg) -> Leg
+fn ended(rt: &HostRuntime, names: &[u8], k: usize, l: Leg) -> Leg
     requires { k < 8 }
     ensures { (result.source.from ≡ l.source.from) × (result.source.to ≡ l.source.to) }
 {
     let s = l.source;
     if source::cut(s) {
         files::say(
+            rt,
             file_name(names, k),
             b"a WAV file of fewer samples than it says: it was cut, or its length was not known when it was written",
         );
@@ -457,7 +492,8 @@ fn ended(names: &[u8], k: usize, l: Leg) -> Leg
 
 // One turn of another leg: its next samples, or a read where there may be fewer at hand than a frame has.
 fn sampled(
-    fd: i32,
+    rt: &HostRuntime,
+    file: &Input,
     names: &[u8],
     k: usize,
     l: Leg,
@@ -471,29 +507,38 @@ fn sampled(
     let from = s.from;
     let to = s.to;
     if (to - from < NEEDED) & !s.ended {
-        return read(fd, names, k, l, input);
+        return read(rt, file, names, k, l, input);
     }
     let n = leg_frame::samples(l.form, &input[from..to], frame);
     if n == 0 {
-        return ended(names, k, l);
+        return ended(rt, names, k, l);
     }
     with_source(l, source::used(s, n), l.next, false)
 }
 
 // One turn of leg k.
-fn turn(fd: i32, names: &[u8], k: usize, l: Leg, input: &mut [u8], frame: &mut [i16; FRAME]) -> Leg
+fn turn(
+    rt: &HostRuntime,
+    file: &Input,
+    names: &[u8],
+    k: usize,
+    l: Leg,
+    input: &mut [u8],
+    frame: &mut [i16; FRAME],
+) -> Leg
     requires { (k < 8) × Inside l.source (length input.old) }
     ensures { Inside result.source (length input.old) }
 {
     if l.form == leg_frame::PRINTED {
-        return printed(fd, names, k, l, input, frame);
+        return printed(rt, file, names, k, l, input, frame);
     }
-    sampled(fd, names, k, l, input, frame)
+    sampled(rt, file, names, k, l, input, frame)
 }
 
 // The turns of leg k up to its next frame, or to where there is none.
 fn turns(
-    fd: i32,
+    rt: &HostRuntime,
+    file: &Input,
     names: &[u8],
     k: usize,
     start: Leg,
@@ -507,7 +552,7 @@ fn turns(
     let mut most: u64 = MOST;
     while 0 < most {
         let from = l;
-        l = turn(fd, names, k, from, input, frame);
+        l = turn(rt, file, names, k, from, input, frame);
         most = rest(most, l.more);
     }
     l
@@ -520,9 +565,10 @@ fn put(k: usize, one: &[i16; FRAME], samples: &mut [i16; SAMPLES])
     block::put(samples, k * FRAME, one);
 }
 
-// Leg k's next frame, at its place among the samples of all: silence where it has ended.
+// Leg k's next frame, at its place among the samples of all: silence where it has ended. One that is not open has failed.
 fn frame_of(
-    fd: i32,
+    rt: &HostRuntime,
+    file: &Option<Input>,
     names: &[u8],
     k: usize,
     l: Leg,
@@ -538,16 +584,30 @@ fn frame_of(
         return l;
     }
     let from = k * ROOM;
-    let l = turns(fd, names, k, l, &mut input[from..from + ROOM], &mut one);
-    put(k, &one, samples);
-    l
+    match file {
+        Some(file) => {
+            let l = turns(
+                rt,
+                file,
+                names,
+                k,
+                l,
+                &mut input[from..from + ROOM],
+                &mut one,
+            );
+            put(k, &one, samples);
+            l
+        }
+        None => with_next(l, FAILED, false),
+    }
 }
 
 // The next frame of each of the first n legs.
 pub(crate) fn frames(
+    rt: &HostRuntime,
     names: &[u8],
     n: usize,
-    fds: &[i32; LEGS],
+    ins: &[Option<Input>; LEGS],
     start: [Leg; LEGS],
     input: &mut [u8],
     samples: &mut [i16; SAMPLES],
@@ -559,7 +619,7 @@ pub(crate) fn frames(
     let mut k = 0;
     while k < n {
         let l = legs[k];
-        let next = frame_of(fds[k], names, k, l, input, samples);
+        let next = frame_of(rt, &ins[k], names, k, l, input, samples);
         legs[k] = next;
         k += 1;
     }

@@ -9,8 +9,10 @@ mod heard;
 mod inputs;
 mod paths;
 
+use files::Input;
 use inputs::Leg;
-use libc::STDERR_FILENO;
+use std::fmt::InlineText;
+use std::fs::File;
 
 // The most legs, the samples of a frame, and of the frames of all legs.
 pub(crate) const LEGS: usize = 8;
@@ -37,7 +39,7 @@ pub(crate) fn rest(most: u64, more: bool) -> u64
 }
 
 // How far a conference is: its frames, how many of them are not written yet, whether a further one follows, and whether all could be read and written.
-#[derive(Drop)]
+#[derive(Clone, Copy)]
 struct Place {
     frames: u32,
     held: usize,
@@ -58,19 +60,20 @@ fn ended(frames: u32, good: bool) -> Place
 }
 
 // A message where so many frames are whole stretches.
-fn tell_progress(frames: u32) {
+fn tell_progress(rt: &HostRuntime, frames: u32) {
     if frames % STRETCH == 0 {
-        io::write_all(STDERR_FILENO, b"conference: ");
-        io::print_decimal(STDERR_FILENO, (frames / 6000) as u64);
-        io::write_all(STDERR_FILENO, b" min\n");
+        files::tell(rt, b"conference: ");
+        files::tell_number(rt, (frames / 6000) as u64);
+        files::tell(rt, b" min\n");
     }
 }
 
 // The frame of the first n legs is mixed, and what is held is written where it is enough.
 fn mixed(
+    rt: &HostRuntime,
     names: &[u8],
     n: usize,
-    outs: &[i32; LEGS],
+    outs: &[Option<File>; LEGS],
     p: Place,
     samples: &[i16; SAMPLES],
     held: &mut [u8; heard::ROOM],
@@ -81,7 +84,7 @@ fn mixed(
     heard::add(n, p.held, samples, held);
     let frames = p.frames + 1;
     let behind = p.held + 1;
-    tell_progress(frames);
+    tell_progress(rt, frames);
     if behind < heard::FRAMES {
         return Place {
             frames,
@@ -90,7 +93,7 @@ fn mixed(
             good: true,
         };
     }
-    let good = heard::write_all(names, n, outs, behind, held);
+    let good = heard::write_all(rt, names, n, outs, behind, held);
     Place {
         frames,
         held: 0,
@@ -101,9 +104,10 @@ fn mixed(
 
 // One frame more, by where the legs are, or the end.
 fn step(
+    rt: &HostRuntime,
     names: &[u8],
     n: usize,
-    outs: &[i32; LEGS],
+    outs: &[Option<File>; LEGS],
     standing: u32,
     p: Place,
     samples: &[i16; SAMPLES],
@@ -116,13 +120,14 @@ fn step(
         return ended(p.frames, false);
     }
     if standing == inputs::DONE {
-        let good = heard::write_all(names, n, outs, p.held, held);
+        let good = heard::write_all(rt, names, n, outs, p.held, held);
         return ended(p.frames, good);
     }
     if p.frames < heard::MOST {
-        return mixed(names, n, outs, p, samples, held);
+        return mixed(rt, names, n, outs, p, samples, held);
     }
     files::say(
+        rt,
         b"conference",
         b"more than 26,843,545 frames, which a WAV file can't have",
     );
@@ -131,10 +136,11 @@ fn step(
 
 // All frames of the first n legs.
 fn run(
+    rt: &HostRuntime,
     names: &[u8],
     n: usize,
-    fds: &[i32; LEGS],
-    outs: &[i32; LEGS],
+    ins: &[Option<Input>; LEGS],
+    outs: &[Option<File>; LEGS],
     start: [Leg; LEGS],
     input: &mut [u8],
 ) -> Place
@@ -153,9 +159,10 @@ fn run(
     let mut most: u64 = MOST;
     while 0 < most {
         let before = all;
-        all = inputs::frames(names, n, fds, before, input, &mut samples);
+        all = inputs::frames(rt, names, n, ins, before, input, &mut samples);
         let at = p;
         p = step(
+            rt,
             names,
             n,
             outs,
@@ -170,27 +177,26 @@ fn run(
 }
 
 // What is told of a conference that was written.
-fn tell(n: usize, frames: u32) {
-    let mut digits = [0u8; 20];
-    let k = io::decimal(n as u64, &mut digits);
-    let mut others = [0u8; 20];
-    let m = io::decimal(frames as u64, &mut others);
-    if files::write(b"(written (legs ")
-        && files::write(&digits[0..k])
-        && files::write(b") (frames ")
-        && files::write(&others[0..m])
+fn tell(rt: &HostRuntime, n: usize, frames: u32) {
+    let legs = InlineText::<20>::of(n);
+    let frames = InlineText::<20>::of(frames);
+    if files::write(rt, b"(written (legs ")
+        && files::write(rt, legs.as_str().as_bytes())
+        && files::write(rt, b") (frames ")
+        && files::write(rt, frames.as_str().as_bytes())
     {
-        files::write(b"))\n");
+        files::write(rt, b"))\n");
     }
 }
 
 // All frames of the first n legs, to files of which so many were made, and their headers. Not good where one is missing or anything fails.
 fn written(
+    rt: &HostRuntime,
     names: &[u8],
     n: usize,
     made: usize,
-    fds: &[i32; LEGS],
-    outs: &[i32; LEGS],
+    ins: &[Option<Input>; LEGS],
+    outs: &[Option<File>; LEGS],
     start: [Leg; LEGS],
     input: &mut [u8],
 ) -> Place
@@ -199,92 +205,93 @@ fn written(
     if made < n {
         return ended(0, false);
     }
-    let p = run(names, n, fds, outs, start, input);
+    let p = run(rt, names, n, ins, outs, start, input);
     if p.good {
-        let good = heard::rewrite_all(names, n, outs, p.frames);
+        let good = heard::rewrite_all(rt, names, n, outs, p.frames);
         return ended(p.frames, good);
     }
     p
 }
 
 // The files are made, written and closed; where not all of that can be done, those that were made are removed again.
-fn make(names: &[u8], n: usize, fds: &[i32; LEGS], start: [Leg; LEGS], input: &mut [u8])
+fn make(
+    rt: &HostRuntime,
+    names: &[u8],
+    n: usize,
+    ins: &[Option<Input>; LEGS],
+    start: [Leg; LEGS],
+    input: &mut [u8],
+)
     requires { (n ≤ 8) × ((length input.old ≡ 524288) × All start) }
 {
-    let mut outs = [-1i32; LEGS];
-    let made = heard::make(names, n, &mut outs);
-    let p = written(names, n, made, fds, &outs, start, input);
-    let closed = heard::close_all(names, made, &outs);
-    if p.good & closed {
-        tell(n, p.frames);
+    let mut outs = [None, None, None, None, None, None, None, None];
+    let made = heard::make(rt, names, n, &mut outs);
+    let p = written(rt, names, n, made, ins, &outs, start, input);
+    drop(outs);
+    if p.good {
+        tell(rt, n, p.frames);
     } else {
-        heard::remove_all(names, made);
+        heard::remove_all(rt, names, made);
     }
 }
 
 // Opens the first n legs, and then makes the conference. A leg that is refused by its first bytes makes no file.
-fn open(names: &[u8], n: usize, fds: &mut [i32; LEGS], input: &mut [u8])
+fn open(rt: &HostRuntime, names: &[u8], n: usize, ins: &mut [Option<Input>; LEGS], input: &mut [u8])
     requires { (n ≤ 8) × (length input.old ≡ 524288) }
 {
-    let start = inputs::begin(names, n, fds, input);
+    let start = inputs::begin(rt, names, n, ins, input);
     if inputs::standing(start, n) != inputs::FAILED {
-        make(names, n, fds, start, input);
-    }
-}
-
-// Closes the legs that were opened.
-fn close(fds: &[i32; LEGS]) {
-    let mut k = 0;
-    while k < LEGS {
-        let fd = fds[k];
-        if 0 <= fd {
-            libc::close(fd);
-        }
-        k += 1;
+        make(rt, names, n, ins, start, input);
     }
 }
 
 // `open` on the whole buffer.
-fn open_all(names: &[u8], n: usize, fds: &mut [i32; LEGS], input: &mut [u8; INPUT])
+fn open_all(
+    rt: &HostRuntime,
+    names: &[u8],
+    n: usize,
+    ins: &mut [Option<Input>; LEGS],
+    input: &mut [u8; INPUT],
+)
     requires { n ≤ 8 }
 {
-    open(names, n, fds, input);
+    open(rt, names, n, ins, input);
 }
 
 // A conference of the first n legs.
-fn conference_of(names: &[u8], n: usize)
+fn conference_of(rt: &HostRuntime, names: &[u8], n: usize)
     requires { n ≤ 8 }
 {
-    let mut fds = [-1i32; LEGS];
+    let mut ins = [None, None, None, None, None, None, None, None];
     let mut input = [0u8; INPUT];
-    open_all(names, n, &mut fds, &mut input);
-    close(&fds);
+    open_all(rt, names, n, &mut ins, &mut input);
 }
 
 // Words of another number.
-fn refuse() {
-    files::say(b"conference", b"OUT and 1 to 8 legs are needed");
+fn refuse(rt: &HostRuntime) {
+    files::say(rt, b"conference", b"OUT and 1 to 8 legs are needed");
 }
 
 // Makes a conference. `names` has OUT and 1 to 8 legs, each followed by a zero byte. A leg is printed samples, a WAV file, or `a:` or `mu:` and the name of a file of G.711 bytes. What each heard
 // is OUT-1.wav and so on. Where anything is refused or fails the reason is on standard error, and no file is left.
-pub fn conference(names: &[u8]) {
+pub fn conference(rt: &HostRuntime, names: &[u8]) {
     let n = paths::count(names);
     if n < 2 {
-        refuse();
+        refuse(rt);
         return;
     }
     if LEGS + 1 < n {
-        refuse();
+        refuse(rt);
         return;
     }
     let out = paths::word(names, 0);
     if paths::LONGEST < out.len() {
         files::say(
+            rt,
             out,
             b"more than 4,089 bytes, so that no file can be named behind it",
         );
         return;
     }
-    conference_of(names, n - 1);
+    conference_of(rt, names, n - 1);
 }

@@ -1,7 +1,8 @@
 // The words of a conference, each followed by a zero byte, which no path has: OUT, and the legs behind it.
 ghost use Rattle.std.specs.Prelude.{◌<◌, ◌≤◌, length};
 
-use libc::PATH_MAX;
+// The most bytes of a path, with a zero byte behind it.
+const PATH_MAX: usize = 4096;
 
 // The most bytes of OUT, with which a name that begins with it is no longer than a path can be.
 pub(crate) const LONGEST: usize = 4089;
@@ -11,7 +12,7 @@ fn end(names: &[u8], from: usize) -> usize
     requires { from ≤ length names.now }
     ensures { (from ≤ result) × (result ≤ length names.now) }
 {
-    bytes::scan::find(names, from, names.len(), 0)
+    octets::find(names, from, names.len(), 0)
 }
 
 // The place behind the next zero from a place on; the end where there is none.
@@ -49,7 +50,7 @@ pub(crate) fn count(names: &[u8]) -> usize {
     let mut i = 0;
     while i < names.len() {
         if names[i] == 0 {
-            n = std::num::wrapping_add_usize(n, 1);
+            n = n.wrapping_add(1);
         }
         i += 1;
     }

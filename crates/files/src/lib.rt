@@ -1,18 +1,33 @@
 // What the programs share: the words of the command line, messages, the table file, and which file a name means. No contract can say what is read or written; what is
 // decided is decided on slices (`options`, `call`).
-ghost use Rattle.std.specs.Prelude.{◌≡◌, ◌≤◌, ◌<◌, length};
+#![tactic(auto)]
+
+ghost use Rattle.std.specs.Prelude.{◌≡◌, ◌≤◌, ◌<◌, length, IfSome};
+ghost use Rattle.std.specs.Io.{ReadsAtMost};
 ghost use Rattle.crc32.specs.Crc32.{crc32};
 ghost use Rattle.call.specs.Chunk.{Begun, begin};
 
 mod path;
+mod reading;
+mod writing;
 
-use libc::{STDERR_FILENO, STDIN_FILENO, STDOUT_FILENO};
 use options::Asked;
-pub use path::{Seen, is_link, look};
+pub use path::{Seen, is_link, look, text};
 use print::FORM_ROOM;
+pub use reading::{Input, open, opened, read, read_full};
+use std::env::FillError;
+use std::fmt::InlineText;
+use std::io;
+use std::io::{IsTerminal, Print};
+use std::os::fd::{AsRawFd, IntoRawFd};
+use std::rt::Env;
+pub use writing::{create, remove, to_start, write_all};
 
 // One byte more than the tables have, so that a longer file is noticed.
 const MORE: usize = 3761;
+
+// The number of standard error, the highest of the standard descriptors.
+const STDERR: i32 = 2;
 
 // Of a table file: 0, or the number of its refusal; and its CRC-32.
 #[derive(Drop)]
@@ -28,138 +43,174 @@ struct Loaded {
     good: bool,
 }
 
+// Bytes on standard error.
+pub fn tell(rt: &HostRuntime, text: &[u8]) {
+    let _ = rt.stderr().write_all(text);
+}
+
+// A number on standard error, in decimal.
+pub fn tell_number(rt: &HostRuntime, n: u64) {
+    let _ = rt.stderr().print(n);
+}
+
 // A line on standard error.
-pub fn say(name: &[u8], what: &[u8]) {
-    io::write_all(STDERR_FILENO, name);
-    io::write_all(STDERR_FILENO, b": ");
-    io::write_all(STDERR_FILENO, what);
-    io::write_all(STDERR_FILENO, b"\n");
+pub fn say(rt: &HostRuntime, name: &[u8], what: &[u8]) {
+    tell(rt, name);
+    tell(rt, b": ");
+    tell(rt, what);
+    tell(rt, b"\n");
 }
 
 // A line on standard error on a line of what a program reads.
-pub fn say_line(program: &[u8], line: u32, what: &[u8]) {
-    let mut digits = [0u8; 20];
-    let n = io::decimal(line as u64, &mut digits);
-    io::write_all(STDERR_FILENO, program);
-    io::write_all(STDERR_FILENO, b": line ");
-    say(&digits[0..n], what);
+pub fn say_line(rt: &HostRuntime, program: &[u8], line: u32, what: &[u8]) {
+    tell(rt, program);
+    tell(rt, b": line ");
+    tell_number(rt, line as u64);
+    tell(rt, b": ");
+    tell(rt, what);
+    tell(rt, b"\n");
+}
+
+// A line on standard error: what failed, and why, in the system's words alone.
+pub fn fail(rt: &HostRuntime, what: &[u8], why: io::Error) {
+    let shown = InlineText::<256>::of(why);
+    let all = shown.as_str();
+    let words = match all.split_once(" (os error ") {
+        Some((words, _)) => words,
+        None => all,
+    };
+    say(rt, what, words.as_bytes());
 }
 
 // Writes to standard output. False, with a message, where not all could be written.
-pub fn write(text: &[u8]) -> bool {
-    let done = io::write_all(STDOUT_FILENO, text);
-    if !done {
-        os::fail(b"standard output");
+pub fn write(rt: &HostRuntime, text: &[u8]) -> bool {
+    match rt.write_all(text) {
+        Ok(()) => true,
+        Err(e) => {
+            fail(rt, b"standard output", e);
+            false
+        }
     }
-    done
 }
 
-// What a program reads: the file of this name, or standard input, which may be a terminal: then it is said what is awaited. Below 0, with a message, where the file can't be opened.
-pub fn input(given: bool, name: &[u8], program: &[u8], awaited: &[u8]) -> i32 {
+// What a program reads: the file of this name, or standard input, which may be a terminal: then it is said what is awaited. None, with a message, where the file can't be opened.
+pub fn input(
+    rt: &HostRuntime,
+    given: bool,
+    name: &[u8],
+    program: &[u8],
+    awaited: &[u8],
+) -> Option<Input> {
     if given {
-        let fd = os::open_read(name);
-        if fd < 0 {
-            os::fail(name);
-        }
-        return fd;
+        return opened(rt, name);
     }
-    if libc::isatty(STDIN_FILENO) == 1 {
-        say(program, awaited);
+    let stdin = rt.stdin();
+    if stdin.is_terminal() {
+        say(rt, program, awaited);
     }
-    STDIN_FILENO
+    Some(Input::Standard(stdin))
 }
 
 // The first n bytes of a form, on standard output.
-pub fn print(form: &[u8; FORM_ROOM], n: usize) {
+pub fn print(rt: &HostRuntime, form: &[u8; FORM_ROOM], n: usize) {
     let view = &form[..];
     if n <= view.len() {
-        write(&view[0..n]);
+        write(rt, &view[0..n]);
     }
 }
 
 // A refusal before the first line: its form on standard output, and why on standard error.
-pub fn refuse(code: u32, name: &[u8], what: &[u8]) {
+pub fn refuse(rt: &HostRuntime, code: u32, name: &[u8], what: &[u8]) {
     let mut form = [0u8; FORM_ROOM];
     let n = print::refused(code, 0, &mut form);
-    print(&form, n);
-    say(name, what);
+    print(rt, &form, n);
+    say(rt, name, what);
 }
 
 // Takes the number of a standard descriptor that is closed. What takes it can't be read or written. False, with a message, where nothing can be opened.
-fn fill() -> bool {
-    let fd = os::open_read(b"/");
-    if fd < 0 {
-        os::fail(b"/");
-        return false;
+fn fill(rt: &HostRuntime) -> bool {
+    match open(rt, b"/") {
+        Ok(file) => {
+            if file.as_raw_fd() <= STDERR {
+                file.into_raw_fd();
+            }
+            true
+        }
+        Err(e) => {
+            fail(rt, b"/", e);
+            false
+        }
     }
-    if STDERR_FILENO < fd {
-        libc::close(fd);
-    }
-    true
 }
 
 // All three standard descriptors are taken, so that no file that is opened for writing gets the number of one and has messages written over its bytes.
-pub fn standard_open() -> bool {
-    fill() && fill() && fill()
+pub fn standard_open(rt: &HostRuntime) -> bool {
+    fill(rt) && fill(rt) && fill(rt)
 }
 
-// One word of the command line.
-fn next(a: Asked, most: usize, i: usize) -> Asked {
-    let mut word = io::buffer();
-    let n = os::arg(i, &mut word);
-    options::next(a, most, i, &word[0..n])
+// Argument i at the front of `word`: how many bytes it has, 0 where it does not fit; none where there is no such argument.
+pub fn arg(rt: &HostRuntime, i: usize, word: &mut [u8]) -> Option<usize>
+    ensures { IfSome result (λ n. n ≤ length word.new) }
+{
+    match rt.arg(i, word) {
+        Ok(n) => Some(n),
+        Err(FillError::TooLong) => Some(0),
+        Err(FillError::NotPresent) => None,
+    }
 }
 
 // What the command line asks for, of a program that takes `least` to `most` operands. A word that is too long for the buffer reads as empty, which `options` refuses.
-pub fn asked(least: usize, most: usize) -> Asked {
-    let n = os::arg_count();
+pub fn asked(rt: &HostRuntime, least: usize, most: usize) -> Asked {
     let mut a = options::none();
-    let mut i = 1;
-    while i < n {
-        a = next(a, most, i);
-        i += 1;
+    for i in 1..usize::MAX {
+        let mut word = [0u8; 4096];
+        match arg(rt, i, &mut word) {
+            Some(n) => a = options::next(a, most, i, &word[0..n]),
+            None => break,
+        }
     }
     options::ended(a, least)
 }
 
 // A text at the front of `room`; how many bytes it has, 0 and nothing written where it does not fit.
-pub(crate) fn put(text: &[u8], room: &mut [u8]) -> usize
+fn put(text: &[u8], room: &mut [u8]) -> usize
     ensures { result ≤ length room.new }
 {
     if text.len() <= room.len() {
-        return bytes::copy(text, room);
+        return octets::copy(text, room);
     }
     0
 }
 
 // Argument i at the front of `name`, or the default where i is 0; how many bytes it has, 0 where there is no such argument or it does not fit.
-pub fn argument(i: usize, default: &[u8], name: &mut [u8]) -> usize
+pub fn argument(rt: &HostRuntime, i: usize, default: &[u8], name: &mut [u8]) -> usize
     ensures { result ≤ length name.new }
 {
     if i != 0 {
-        return os::arg(i, name);
+        return arg(rt, i, name).unwrap_or(0);
     }
     put(default, name)
 }
 
 // Why a line can't be taken, in words.
-fn why(program: &[u8], a: Asked) {
+fn why(rt: &HostRuntime, program: &[u8], a: Asked) {
     if a.what == options::FILE {
-        say(program, b"--tables needs a file");
+        say(rt, program, b"--tables needs a file");
     } else if a.what == options::TWICE {
-        say(program, b"--tables is given twice");
+        say(rt, program, b"--tables is given twice");
     } else if a.what == options::UNKNOWN {
-        let mut word = io::buffer();
-        let n = argument(a.word, b"", &mut word);
-        io::write_all(STDERR_FILENO, program);
-        io::write_all(STDERR_FILENO, b": ");
-        say(&word[0..n], b"no such option");
+        let mut word = [0u8; 4096];
+        let n = argument(rt, a.word, b"", &mut word);
+        tell(rt, program);
+        tell(rt, b": ");
+        say(rt, &word[0..n], b"no such option");
     } else if a.what == options::MANY {
-        say(program, b"too many arguments");
+        say(rt, program, b"too many arguments");
     } else if a.what == options::FEW {
-        say(program, b"too few arguments");
+        say(rt, program, b"too few arguments");
     } else {
         say(
+            rt,
             program,
             b"an argument is empty or has more than 4,095 bytes",
         );
@@ -168,66 +219,70 @@ fn why(program: &[u8], a: Asked) {
 
 // Answers a line that asks for no run: help (the usage and more) or the version on standard output, or why it can't be taken and the usage on standard error. False, and
 // nothing done, where it asks for a run.
-pub fn answered(a: Asked, program: &[u8], usage: &[u8], more: &[u8]) -> bool {
+pub fn answered(rt: &HostRuntime, a: Asked, program: &[u8], usage: &[u8], more: &[u8]) -> bool {
     if a.what == options::RUN {
         return false;
     }
     if a.what == options::HELP {
-        if write(usage) {
-            write(more);
+        if write(rt, usage) {
+            write(rt, more);
         }
         return true;
     }
     if a.what == options::VERSION {
-        write(b"holdamek 0.10.0\n");
+        write(rt, b"holdamek 0.10.0\n");
         return true;
     }
-    why(program, a);
-    io::write_all(STDERR_FILENO, usage);
+    why(rt, program, a);
+    tell(rt, usage);
     true
 }
 
 // Whether tables are asked for, of a program that has none: that is refused as any other unknown option.
-pub fn no_tables(a: Asked, program: &[u8], usage: &[u8]) -> bool {
+pub fn no_tables(rt: &HostRuntime, a: Asked, program: &[u8], usage: &[u8]) -> bool {
     if (a.tables == 0) & (a.what != options::FILE) & (a.what != options::TWICE) {
         return false;
     }
-    io::write_all(STDERR_FILENO, program);
-    io::write_all(STDERR_FILENO, b": ");
-    say(b"--tables", b"no such option");
-    io::write_all(STDERR_FILENO, usage);
+    tell(rt, program);
+    tell(rt, b": ");
+    say(rt, b"--tables", b"no such option");
+    tell(rt, usage);
     true
 }
 
 // Nothing was read, for the reason that is said.
-fn failed(name: &[u8]) -> Loaded
+fn failed(rt: &HostRuntime, name: &[u8], why: io::Error) -> Loaded
     ensures { result.length ≡ 0 }
 {
-    os::fail(name);
+    fail(rt, name, why);
     Loaded {
         length: 0,
         good: false,
     }
 }
 
-// The bytes of a file at the front of `file`, which has room for more than the tables. A read behind them tells an error from the end.
-fn read(name: &[u8], file: &mut [u8]) -> Loaded
+// The bytes of an open file at the front of `file`, which has room for more than the tables. A read behind them tells an error from the end.
+fn load(rt: &HostRuntime, from: &Input, name: &[u8], file: &mut [u8]) -> Loaded
     requires { 3760 < length file.old }
     ensures { result.length ≤ length file.new }
 {
-    let fd = os::open_read(name);
-    if fd < 0 {
-        return failed(name);
-    }
-    let length = io::read_full(fd, file);
+    let length = read_full(from, file);
     let mut rest = [0u8; 1];
-    if libc::read(fd, &mut rest) < 0 {
-        let none = failed(name);
-        libc::close(fd);
-        return none;
+    match read(from, &mut rest) {
+        Ok(_) => Loaded { length, good: true },
+        Err(e) => failed(rt, name, e),
     }
-    libc::close(fd);
-    Loaded { length, good: true }
+}
+
+// The same of the file of this name.
+fn load_file(rt: &HostRuntime, name: &[u8], file: &mut [u8]) -> Loaded
+    requires { 3760 < length file.old }
+    ensures { result.length ≤ length file.new }
+{
+    match open(rt, name) {
+        Ok(from) => load(rt, &Input::Named(from), name, file),
+        Err(e) => failed(rt, name, e),
+    }
 }
 
 // The tables and the fresh state of a table file's bytes, and their CRC-32. A refusal leaves both blocks as they were.
@@ -241,16 +296,16 @@ fn begin(bytes: &[u8], t: &mut [i16; 1880], b: &mut [i16; 234]) -> Checked
 }
 
 // Reads the tables, and makes the fresh state. Where they are refused the reason is on standard error, and the form is the caller's to print.
-pub fn tables(name: &[u8], t: &mut [i16; 1880], b: &mut [i16; 234]) -> Checked {
+pub fn tables(rt: &HostRuntime, name: &[u8], t: &mut [i16; 1880], b: &mut [i16; 234]) -> Checked {
     let mut file = [0u8; MORE];
-    let loaded = read(name, &mut file);
+    let loaded = load_file(rt, name, &mut file);
     let n = loaded.length;
     let checked = begin(&file[0..n], t, b);
     if checked.code == 1 && loaded.good {
-        say(name, b"not 3,760 bytes of tables");
+        say(rt, name, b"not 3,760 bytes of tables");
     }
     if checked.code == 2 {
-        say(name, b"the initial delay is not in 19..144");
+        say(rt, name, b"the initial delay is not in 19..144");
     }
     checked
 }

@@ -7,8 +7,8 @@ ghost use Rattle.std.specs.Prelude.{◌<◌};
 mod reading;
 mod writing;
 
-use libc::STDERR_FILENO;
 use options::Asked;
+use std::fmt::InlineText;
 
 const USAGE: [u8; 105] =
     *b"usage: g711_leg read LAW [LEG]\n       g711_leg write LAW SAMPLES LEG\n       g711_leg wav LAW SAMPLES LEG\n";
@@ -37,18 +37,17 @@ pub(crate) fn rest(most: u64, more: bool) -> u64
 }
 
 // A form with a number on standard output, where all before it was written: its opening, the number, and what closes it.
-pub(crate) fn tell(opening: &[u8], n: u64) {
-    let mut digits = [0u8; 20];
-    let k = io::decimal(n, &mut digits);
-    if files::write(opening) && files::write(&digits[0..k]) {
-        files::write(b"))\n");
+pub(crate) fn tell(rt: &HostRuntime, opening: &[u8], n: u64) {
+    let digits = InlineText::<20>::of(n);
+    if files::write(rt, opening) && files::write(rt, digits.as_str().as_bytes()) {
+        files::write(rt, b"))\n");
     }
 }
 
 // What the word of an argument asks for.
-fn asked(i: usize) -> u32 {
-    let mut word = io::buffer();
-    let n = files::argument(i, b"", &mut word);
+fn asked(rt: &HostRuntime, i: usize) -> u32 {
+    let mut word = [0u8; 4096];
+    let n = files::argument(rt, i, b"", &mut word);
     if text::same(&word[0..n], b"read") {
         return READ;
     }
@@ -62,9 +61,9 @@ fn asked(i: usize) -> u32 {
 }
 
 // The law that an argument names; 0 where it is none.
-fn law(i: usize) -> u32 {
-    let mut word = io::buffer();
-    let n = files::argument(i, b"", &mut word);
+fn law(rt: &HostRuntime, i: usize) -> u32 {
+    let mut word = [0u8; 4096];
+    let n = files::argument(rt, i, b"", &mut word);
     if text::same(&word[0..n], b"a") {
         return g711::A;
     }
@@ -75,54 +74,56 @@ fn law(i: usize) -> u32 {
 }
 
 // A command line that can't be taken: why, and the usage.
-fn misused(what: &[u8]) {
-    files::say(b"g711_leg", what);
+fn misused(rt: &HostRuntime, what: &[u8]) {
+    files::say(rt, b"g711_leg", what);
     let usage = USAGE;
-    io::write_all(STDERR_FILENO, &usage);
+    files::tell(rt, &usage);
 }
 
 // A leg to printed samples.
-fn read(a: Asked, law: u32) {
+fn read(rt: &HostRuntime, a: Asked, law: u32) {
     if 3 < a.operands {
-        misused(b"too many arguments");
+        misused(rt, b"too many arguments");
         return;
     }
-    let mut name = io::buffer();
-    let n = files::argument(a.third, b"standard input", &mut name);
-    let fd = files::input(
+    let mut name = [0u8; 4096];
+    let n = files::argument(rt, a.third, b"standard input", &mut name);
+    let from = files::input(
+        rt,
         a.third != 0,
         &name[0..n],
         b"g711_leg",
         b"reading a leg's bytes from the terminal; end them with Ctrl-D (g711_leg --help tells more)",
     );
-    if 0 <= fd {
-        reading::read(law, fd, &name[0..n]);
+    if let Some(from) = from {
+        reading::read(rt, law, &from, &name[0..n]);
     }
 }
 
 // Printed samples to a leg.
-fn write(a: Asked, law: u32, wave: bool) {
+fn write(rt: &HostRuntime, a: Asked, law: u32, wave: bool) {
     if a.operands < 4 {
-        misused(b"too few arguments");
+        misused(rt, b"too few arguments");
         return;
     }
-    let mut samples = io::buffer();
-    let mut leg = io::buffer();
-    let n = files::argument(a.third, b"", &mut samples);
-    let k = files::argument(a.fourth, b"", &mut leg);
-    writing::write(law, wave, &samples[0..n], &leg[0..k]);
+    let mut samples = [0u8; 4096];
+    let mut leg = [0u8; 4096];
+    let n = files::argument(rt, a.third, b"", &mut samples);
+    let k = files::argument(rt, a.fourth, b"", &mut leg);
+    writing::write(rt, law, wave, &samples[0..n], &leg[0..k]);
 }
 
-fn main() {
-    if !files::standard_open() {
+fn main(rt: HostRuntime) {
+    if !files::standard_open(&rt) {
         return;
     }
-    let a = files::asked(2, 4);
+    let a = files::asked(&rt, 2, 4);
     let usage = USAGE;
-    if files::no_tables(a, b"g711_leg", &usage) {
+    if files::no_tables(&rt, a, b"g711_leg", &usage) {
         return;
     }
     let done = files::answered(
+        &rt,
         a,
         b"g711_leg",
         &usage,
@@ -131,15 +132,15 @@ fn main() {
     if done {
         return;
     }
-    let what = asked(a.first);
-    let law = law(a.second);
+    let what = asked(&rt, a.first);
+    let law = law(&rt, a.second);
     if what == OTHER {
-        misused(b"the first argument is none of read, write and wav");
+        misused(&rt, b"the first argument is none of read, write and wav");
     } else if law == 0 {
-        misused(b"LAW is neither a nor mu");
+        misused(&rt, b"LAW is neither a nor mu");
     } else if what == READ {
-        read(a, law);
+        read(&rt, a, law);
     } else {
-        write(a, law, what == WAV);
+        write(&rt, a, law, what == WAV);
     }
 }

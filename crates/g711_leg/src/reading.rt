@@ -3,6 +3,7 @@ ghost use Rattle.std.specs.Prelude.{◌+◌, ◌-◌, ◌*◌, ◌≤◌, length
 ghost use Rattle.source.specs.Source.{Inside};
 
 use crate::{MOST, SAMPLES, rest, tell};
+use files::Input;
 use print::FRAME_ROOM;
 use source::{ROOM, Source};
 
@@ -12,7 +13,7 @@ const LINES: usize = 200;
 const OUT: usize = LINES * FRAME_ROOM;
 
 // Where the reading is: the bytes at hand, the samples that were printed, whether a turn follows, and whether all could be read and written.
-#[derive(Drop)]
+#[derive(Clone, Copy)]
 struct Place {
     source: Source,
     samples: u64,
@@ -21,7 +22,7 @@ struct Place {
 }
 
 // How many bytes were taken of a leg, and how many were printed for them.
-#[derive(Drop)]
+#[derive(Clone, Copy)]
 struct Batch {
     taken: usize,
     written: usize,
@@ -72,7 +73,7 @@ fn ready(n: usize, ended: bool) -> usize
 }
 
 // Prints lines of what is at hand. The last turn is the one behind which a leg that has ended has nothing left.
-fn printed(law: u32, p: Place, input: &[u8], out: &mut [u8]) -> Place
+fn printed(rt: &HostRuntime, law: u32, p: Place, input: &[u8], out: &mut [u8]) -> Place
     requires { Inside p.source (length input.now) × (65400 ≤ length out.old) }
     ensures { Inside result.source (length input.now) }
 {
@@ -81,24 +82,32 @@ fn printed(law: u32, p: Place, input: &[u8], out: &mut [u8]) -> Place
     let end = from + ready(s.to - from, s.ended);
     let lines = put_lines(law, &input[from..end], out);
     let n = lines.written;
-    let good = files::write(&out[0..n]);
+    let good = files::write(rt, &out[0..n]);
     let left = source::used(s, lines.taken);
     Place {
         source: left,
-        samples: std::num::wrapping_add_u64(p.samples, lines.taken as u64),
+        samples: p.samples.wrapping_add(lines.taken as u64),
         more: good & ((left.from != left.to) | !left.ended),
         good,
     }
 }
 
 // One turn: a read where fewer bytes are at hand than a whole line has, else lines.
-fn turn(law: u32, fd: i32, name: &[u8], p: Place, input: &mut [u8], out: &mut [u8]) -> Place
+fn turn(
+    rt: &HostRuntime,
+    law: u32,
+    file: &Input,
+    name: &[u8],
+    p: Place,
+    input: &mut [u8],
+    out: &mut [u8],
+) -> Place
     requires { Inside p.source (length input.old) × (65400 ≤ length out.old) }
     ensures { Inside result.source (length input.old) }
 {
     let s = p.source;
     if (s.to - s.from < SAMPLES) & !s.ended {
-        let s = source::fill(fd, name, s, input);
+        let s = source::fill(rt, file, name, s, input);
         return Place {
             source: s,
             samples: p.samples,
@@ -106,13 +115,14 @@ fn turn(law: u32, fd: i32, name: &[u8], p: Place, input: &mut [u8], out: &mut [u
             good: s.good,
         };
     }
-    printed(law, p, input, out)
+    printed(rt, law, p, input, out)
 }
 
 // `turn` on the whole buffers.
 fn next(
+    rt: &HostRuntime,
     law: u32,
-    fd: i32,
+    file: &Input,
     name: &[u8],
     p: Place,
     input: &mut [u8; ROOM],
@@ -121,11 +131,18 @@ fn next(
     requires { Inside p.source 65536 }
     ensures { Inside result.source 65536 }
 {
-    turn(law, fd, name, p, input, out)
+    turn(rt, law, file, name, p, input, out)
 }
 
 // A whole leg, from what is at hand of it, and its total.
-fn convert(law: u32, fd: i32, name: &[u8], start: Source, input: &mut [u8; ROOM])
+fn convert(
+    rt: &HostRuntime,
+    law: u32,
+    file: &Input,
+    name: &[u8],
+    start: Source,
+    input: &mut [u8; ROOM],
+)
     requires { Inside start 65536 }
 {
     let mut out = [0u8; OUT];
@@ -138,22 +155,23 @@ fn convert(law: u32, fd: i32, name: &[u8], start: Source, input: &mut [u8; ROOM]
     let mut most: u64 = MOST;
     while 0 < most {
         let from = p;
-        p = next(law, fd, name, from, input, &mut out);
+        p = next(rt, law, file, name, from, input, &mut out);
         most = rest(most, p.more);
     }
     if p.good {
         if source::cut(p.source) {
             files::say(
+                rt,
                 name,
                 b"a WAV file of fewer samples than it says: it was cut, or its length was not known when it was written",
             );
         }
-        tell(b"(total (samples ", p.samples);
+        tell(rt, b"(total (samples ", p.samples);
     }
 }
 
 // What is at hand of a leg of which n bytes were read: the samples of a WAV file, which must be of this law, or all.
-fn begun(law: u32, name: &[u8], input: &[u8], n: usize) -> Source
+fn begun(rt: &HostRuntime, law: u32, name: &[u8], input: &[u8], n: usize) -> Source
     requires { n ≤ length input.now }
     ensures { Inside result (length input.now) }
 {
@@ -162,24 +180,38 @@ fn begun(law: u32, name: &[u8], input: &[u8], n: usize) -> Source
         return source::raw(n);
     }
     if law == g711::A {
-        return source::wave(name, bytes, wav::A_LAW, 8, b"A-law of 8 bits (format 6)");
+        return source::wave(
+            rt,
+            name,
+            bytes,
+            wav::A_LAW,
+            8,
+            b"A-law of 8 bits (format 6)",
+        );
     }
-    source::wave(name, bytes, wav::MU_LAW, 8, b"mu-law of 8 bits (format 7)")
+    source::wave(
+        rt,
+        name,
+        bytes,
+        wav::MU_LAW,
+        8,
+        b"mu-law of 8 bits (format 7)",
+    )
 }
 
 // The first bytes of a leg, and what is at hand of it. A read that fails is told by the next one.
-fn opening(law: u32, fd: i32, name: &[u8], input: &mut [u8; ROOM]) -> Source
+fn opening(rt: &HostRuntime, law: u32, file: &Input, name: &[u8], input: &mut [u8; ROOM]) -> Source
     ensures { Inside result 65536 }
 {
-    let n = io::read_full(fd, input);
-    begun(law, name, input, n)
+    let n = files::read_full(file, input);
+    begun(rt, law, name, input, n)
 }
 
 // Prints the samples of an open leg. Where it can't be read or is a WAV file of another kind the reason is on standard error, and there is no total.
-pub(crate) fn read(law: u32, fd: i32, name: &[u8]) {
+pub(crate) fn read(rt: &HostRuntime, law: u32, file: &Input, name: &[u8]) {
     let mut input = [0u8; ROOM];
-    let start = opening(law, fd, name, &mut input);
+    let start = opening(rt, law, file, name, &mut input);
     if start.good {
-        convert(law, fd, name, start, &mut input);
+        convert(rt, law, file, name, start, &mut input);
     }
 }

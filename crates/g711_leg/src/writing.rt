@@ -4,8 +4,13 @@ ghost use Rattle.source.specs.Source.{Inside};
 ghost use Rattle.g711_leg.specs.Held.{Held};
 
 use crate::{MOST, SAMPLES, rest, tell};
+use files::Input;
 use print::FORM_ROOM;
 use source::{ROOM, Source};
+use std::fmt::InlineText;
+use std::fs::File;
+use std::io;
+use std::io::{Error, ErrorKind};
 use wav::HEADER;
 
 // The bytes of a leg that are written at once.
@@ -37,16 +42,16 @@ const LONG: u32 = 8;
 
 const OTHER_TOTAL: u32 = 9;
 
-// The law, and the open files; `leg` is below 0 where the text is only tested.
+// The law, and the open files; there is no leg where the text is only tested.
 #[derive(Drop)]
 struct Files {
     law: u32,
-    text: i32,
-    leg: i32,
+    text: Input,
+    leg: Option<File>,
 }
 
 // Where a text is: its bytes at hand, the lines that were begun, the samples that were taken, how many bytes of the leg are not written yet, and what follows.
-#[derive(Drop)]
+#[derive(Clone, Copy)]
 struct Place {
     source: Source,
     lines: u32,
@@ -56,14 +61,14 @@ struct Place {
 }
 
 // What follows a line, and how many bytes of the leg it has.
-#[derive(Drop)]
+#[derive(Clone, Copy)]
 struct Line {
     next: u32,
     bytes: usize,
 }
 
 // How many bytes of the leg are not written yet, and whether those before could be written.
-#[derive(Drop)]
+#[derive(Clone, Copy)]
 struct Kept {
     held: usize,
     good: bool,
@@ -71,8 +76,9 @@ struct Kept {
 
 // Whether a text is the total of so many samples.
 fn is_total(text: &[u8], samples: u64) -> bool {
-    let mut digits = [0u8; 20];
-    let k = io::decimal(samples, &mut digits);
+    let shown = InlineText::<20>::of(samples);
+    let digits = shown.as_str().as_bytes();
+    let k = digits.len();
     if text.len() < OPENING {
         return false;
     }
@@ -80,7 +86,7 @@ fn is_total(text: &[u8], samples: u64) -> bool {
     if number.len() < k {
         return false;
     }
-    text::same(&number[0..k], &digits[0..k]) && text::same(&number[k..], b"))")
+    text::same(&number[0..k], digits) && text::same(&number[k..], b"))")
 }
 
 // One line, without its line feed, behind one that this follows and so many samples; its bytes at the front of `bytes`.
@@ -117,19 +123,33 @@ fn read_line(law: u32, next: u32, samples: u64, text: &[u8], bytes: &mut [u8; SA
 }
 
 // Writes bytes of the leg, where there is one. False, with a message, where not all could be written.
-fn put(leg: i32, name: &[u8], bytes: &[u8]) -> bool {
-    if leg < 0 {
-        return true;
+fn put(rt: &HostRuntime, leg: &Option<File>, name: &[u8], bytes: &[u8]) -> bool {
+    match leg {
+        None => true,
+        Some(file) => put_all(rt, file, name, bytes),
     }
-    let done = io::write_all(leg, bytes);
-    if !done {
-        os::fail(name);
+}
+
+// The same of an open leg.
+fn put_all(rt: &HostRuntime, leg: &File, name: &[u8], bytes: &[u8]) -> bool {
+    match files::write_all(leg, bytes) {
+        Ok(()) => true,
+        Err(e) => {
+            files::fail(rt, name, e);
+            false
+        }
     }
-    done
 }
 
 // Bytes of the leg behind those that are not written yet, which are written where there is no room.
-fn keep(leg: i32, name: &[u8], bytes: &[u8], held: usize, out: &mut [u8]) -> Kept
+fn keep(
+    rt: &HostRuntime,
+    leg: &Option<File>,
+    name: &[u8],
+    bytes: &[u8],
+    held: usize,
+    out: &mut [u8],
+) -> Kept
     requires { (held ≤ length out.old) × (length bytes.now ≤ length out.old) }
     ensures { result.held ≤ length out.old }
 {
@@ -139,7 +159,7 @@ fn keep(leg: i32, name: &[u8], bytes: &[u8], held: usize, out: &mut [u8]) -> Kep
             good: true,
         };
     }
-    let good = put(leg, name, &out[0..held]);
+    let good = put(rt, leg, name, &out[0..held]);
     Kept {
         held: print::put(bytes, 0, out),
         good,
@@ -148,7 +168,8 @@ fn keep(leg: i32, name: &[u8], bytes: &[u8], held: usize, out: &mut [u8]) -> Kep
 
 // The first n bytes of a line's, kept.
 fn keep_line(
-    leg: i32,
+    rt: &HostRuntime,
+    leg: &Option<File>,
     name: &[u8],
     bytes: &[u8; SAMPLES],
     n: usize,
@@ -159,7 +180,7 @@ fn keep_line(
     ensures { result.held ≤ length out.old }
 {
     let view: &[u8] = bytes;
-    keep(leg, name, &view[0..n], held, out)
+    keep(rt, leg, name, &view[0..n], held, out)
 }
 
 // What follows, where all could be read and written.
@@ -176,7 +197,7 @@ fn last(held: usize, ended: bool) -> u32 {
 }
 
 // No whole line is at hand: a read, or the end.
-fn lacking(fd: i32, name: &[u8], p: Place, input: &mut [u8]) -> Place
+fn lacking(rt: &HostRuntime, file: &Input, name: &[u8], p: Place, input: &mut [u8]) -> Place
     requires { Inside p.source (length input.old) }
     ensures { Inside result.source (length input.old) × (result.held ≤ p.held) }
 {
@@ -191,7 +212,7 @@ fn lacking(fd: i32, name: &[u8], p: Place, input: &mut [u8]) -> Place
             next: last(left, s.ended),
         };
     }
-    let s = source::fill(fd, name, s, input);
+    let s = source::fill(rt, file, name, s, input);
     Place {
         source: s,
         lines: p.lines,
@@ -203,7 +224,8 @@ fn lacking(fd: i32, name: &[u8], p: Place, input: &mut [u8]) -> Place
 
 // The line that ends before a place.
 fn take(
-    f: Files,
+    rt: &HostRuntime,
+    f: &Files,
     leg: &[u8],
     p: Place,
     end: usize,
@@ -217,12 +239,12 @@ fn take(
     let s = p.source;
     let from = s.from;
     let line = read_line(f.law, p.next, p.samples, &input[from..end], bytes);
-    let kept = keep_line(f.leg, leg, bytes, line.bytes, p.held, out);
+    let kept = keep_line(rt, &f.leg, leg, bytes, line.bytes, p.held, out);
     let left = source::used(s, end + 1 - from);
     Place {
         source: left,
         lines: line_step::one_more(p.lines),
-        samples: std::num::wrapping_add_u64(p.samples, line.bytes as u64),
+        samples: p.samples.wrapping_add(line.bytes as u64),
         held: kept.held,
         next: follows(kept.good, line.next),
     }
@@ -230,7 +252,8 @@ fn take(
 
 // The next line, or a read where there is no whole one.
 fn turn(
-    f: Files,
+    rt: &HostRuntime,
+    f: &Files,
     name: &[u8],
     leg: &[u8],
     p: Place,
@@ -242,16 +265,17 @@ fn turn(
     ensures { Held result (length input.old) (length out.old) }
 {
     let s = p.source;
-    let end = bytes::scan::find(input, s.from, s.to, 10);
+    let end = octets::find(input, s.from, s.to, 10);
     if end == s.to {
-        return lacking(f.text, name, p, input);
+        return lacking(rt, &f.text, name, p, input);
     }
-    take(f, leg, p, end, input, bytes, out)
+    take(rt, f, leg, p, end, input, bytes, out)
 }
 
 // `turn` on the whole buffers.
 fn next(
-    f: Files,
+    rt: &HostRuntime,
+    f: &Files,
     name: &[u8],
     leg: &[u8],
     p: Place,
@@ -262,11 +286,11 @@ fn next(
     requires { Held p 65536 16384 }
     ensures { Held result 65536 16384 }
 {
-    turn(f, name, leg, p, input, bytes, out)
+    turn(rt, f, name, leg, p, input, bytes, out)
 }
 
 // Behind the last line: the bytes that are not written yet are written, where nothing failed before.
-fn ended(f: Files, leg: &[u8], p: Place, out: &[u8; OUT]) -> Place
+fn ended(rt: &HostRuntime, f: &Files, leg: &[u8], p: Place, out: &[u8; OUT]) -> Place
     requires { Held p 65536 16384 }
 {
     if p.next == FAILED {
@@ -275,7 +299,7 @@ fn ended(f: Files, leg: &[u8], p: Place, out: &[u8; OUT]) -> Place
     let s = p.source;
     let n = p.held;
     let view: &[u8] = out;
-    let good = put(f.leg, leg, &view[0..n]);
+    let good = put(rt, &f.leg, leg, &view[0..n]);
     Place {
         source: s,
         lines: p.lines,
@@ -286,7 +310,7 @@ fn ended(f: Files, leg: &[u8], p: Place, out: &[u8; OUT]) -> Place
 }
 
 // All lines of a text: tested, and written where there is a leg.
-fn pass(f: Files, name: &[u8], leg: &[u8]) -> Place {
+fn pass(rt: &HostRuntime, f: &Files, name: &[u8], leg: &[u8]) -> Place {
     let mut input = [0u8; ROOM];
     let mut bytes = [0u8; SAMPLES];
     let mut out = [0u8; OUT];
@@ -300,36 +324,45 @@ fn pass(f: Files, name: &[u8], leg: &[u8]) -> Place {
     let mut most: u64 = MOST;
     while 0 < most {
         let from = p;
-        p = next(f, name, leg, from, &mut input, &mut bytes, &mut out);
+        p = next(rt, f, name, leg, from, &mut input, &mut bytes, &mut out);
         most = rest(most, (p.next == GO) | (p.next == TOTAL));
     }
-    ended(f, leg, p, &out)
+    ended(rt, f, leg, p, &out)
 }
 
 // Why a line is refused, in words.
-fn why(line: u32, reason: u32) {
+fn why(rt: &HostRuntime, line: u32, reason: u32) {
     if reason == NO_BYTE {
         files::say_line(
+            rt,
             b"g711_leg",
             line,
             b"refused (17): a sample that is no value of this law",
         );
     } else if reason == BEHIND {
-        files::say_line(b"g711_leg", line, b"refused (9): a line behind the total");
+        files::say_line(
+            rt,
+            b"g711_leg",
+            line,
+            b"refused (9): a line behind the total",
+        );
     } else if reason == OTHER_TOTAL {
         files::say_line(
+            rt,
             b"g711_leg",
             line,
             b"refused (9): the total of another number of samples; some may be missing",
         );
     } else if reason == NO_FEED {
         files::say_line(
+            rt,
             b"g711_leg",
             line,
             b"refused (9): the last line has no line feed; it may be cut",
         );
     } else {
         files::say_line(
+            rt,
             b"g711_leg",
             line,
             b"refused (9): neither `(pcm H)` with four hexadecimal digits, 0-9 and a-f, for each of 1 to 80 samples nor a total",
@@ -338,18 +371,19 @@ fn why(line: u32, reason: u32) {
 }
 
 // A text that is refused: its form on standard output, and why on standard error.
-fn refuse(p: Place) {
+fn refuse(rt: &HostRuntime, p: Place) {
     let mut form = [0u8; FORM_ROOM];
     let code = if p.next == NO_BYTE { 17 } else { 9 };
     let n = print::refused(code, p.lines, &mut form);
-    files::print(&form, n);
-    why(p.lines, p.next);
+    files::print(rt, &form, n);
+    why(rt, p.lines, p.next);
 }
 
 // The header of a WAV file of so many samples. False, with a message, where there are more than it can have, or it can't be written.
-fn begin(f: Files, name: &[u8], samples: u64) -> bool {
+fn begin(rt: &HostRuntime, f: &Files, name: &[u8], samples: u64) -> bool {
     if (wav::MOST as u64) < samples {
         files::say(
+            rt,
             name,
             b"more than 4,294,967,244 samples, which a WAV file can't have: write them as bytes",
         );
@@ -362,77 +396,86 @@ fn begin(f: Files, name: &[u8], samples: u64) -> bool {
         wav::MU_LAW
     };
     wav::header(tag, 8, samples as u32, &mut head);
-    put(f.leg, name, &head)
+    put(rt, &f.leg, name, &head)
+}
+
+// Moves a text to its first byte. Standard input is none.
+fn to_start(text: &Input) -> io::Result<()> {
+    match text {
+        Input::Named(file) => files::to_start(file),
+        Input::Standard(_) => Err(Error::from(ErrorKind::NotSeekable)),
+    }
 }
 
 // Reads a text of so many samples again and writes the leg. False, with a message, where that fails or the text is another than before.
-fn written(f: Files, wave: bool, name: &[u8], leg: &[u8], samples: u64) -> bool {
-    if wave && !begin(f, leg, samples) {
+fn written(rt: &HostRuntime, f: &Files, wave: bool, name: &[u8], leg: &[u8], samples: u64) -> bool {
+    if wave && !begin(rt, f, leg, samples) {
         return false;
     }
-    if libc::lseek(f.text, 0, libc::SEEK_SET) != 0 {
-        os::fail(name);
+    if let Err(e) = to_start(&f.text) {
+        files::fail(rt, name, e);
         return false;
     }
-    let p = pass(f, name, leg);
+    let p = pass(rt, f, name, leg);
     if p.next == FAILED {
         return false;
     }
     if (p.next != DONE) | (p.samples != samples) {
-        files::say(name, b"has changed while it was read");
+        files::say(rt, name, b"has changed while it was read");
         return false;
     }
     if wave & (samples % 2 == 1) {
-        return put(f.leg, leg, b"\0");
+        return put(rt, &f.leg, leg, b"\0");
     }
     true
 }
 
-// Makes the leg, which must be new. Where it can't be written whole it is removed again.
-fn make(f: Files, wave: bool, name: &[u8], leg: &[u8], samples: u64) {
-    let fd = os::create(leg);
-    if fd < 0 {
-        os::fail(leg);
-        return;
-    }
-    let made = Files {
-        law: f.law,
-        text: f.text,
-        leg: fd,
-    };
-    let mut good = written(made, wave, name, leg, samples);
-    if libc::close(fd) < 0 {
-        os::fail(leg);
-        good = false;
-    }
+// The leg that was made is written. Where it can't be written whole it is removed again.
+fn finish(rt: &HostRuntime, made: Files, wave: bool, name: &[u8], leg: &[u8], samples: u64) {
+    let good = written(rt, &made, wave, name, leg, samples);
+    drop(made);
     if good {
-        tell(b"(written (samples ", samples);
-    } else if os::unlink(leg) < 0 {
-        os::fail(leg);
+        tell(rt, b"(written (samples ", samples);
+    } else if let Err(e) = files::remove(rt, leg) {
+        files::fail(rt, leg, e);
+    }
+}
+
+// Makes the leg, which must be new.
+fn make(rt: &HostRuntime, f: Files, wave: bool, name: &[u8], leg: &[u8], samples: u64) {
+    let mut f = f;
+    match files::create(rt, leg) {
+        Ok(file) => {
+            f.leg = Some(file);
+            finish(rt, f, wave, name, leg, samples);
+        }
+        Err(e) => files::fail(rt, leg, e),
+    }
+}
+
+// The samples of an open text to a new leg.
+fn write_from(rt: &HostRuntime, f: Files, wave: bool, name: &[u8], leg: &[u8]) {
+    let p = pass(rt, &f, name, leg);
+    if p.next == DONE {
+        make(rt, f, wave, name, leg, p.samples);
+    } else if p.next != FAILED {
+        refuse(rt, p);
     }
 }
 
 // The samples of a text to a new leg, raw or a WAV file.
-pub(crate) fn write(law: u32, wave: bool, name: &[u8], leg: &[u8]) {
-    let seen = files::look(name);
+pub(crate) fn write(rt: &HostRuntime, law: u32, wave: bool, name: &[u8], leg: &[u8]) {
+    let seen = files::look(rt, name);
     if seen.there & !seen.regular {
-        files::say(name, b"not a regular file; it would be read twice");
+        files::say(rt, name, b"not a regular file; it would be read twice");
         return;
     }
-    let fd = os::open_read(name);
-    if fd < 0 {
-        os::fail(name);
-        return;
-    }
-    let f = Files {
-        law,
-        text: fd,
-        leg: -1,
-    };
-    let p = pass(f, name, leg);
-    if p.next == DONE {
-        make(f, wave, name, leg, p.samples);
-    } else if p.next != FAILED {
-        refuse(p);
+    if let Some(text) = files::opened(rt, name) {
+        let f = Files {
+            law,
+            text,
+            leg: None,
+        };
+        write_from(rt, f, wave, name, leg);
     }
 }

@@ -1,8 +1,11 @@
 // What a job writes, in its order: forms in OUT at their place, OUT synced, the state written aside, synced and renamed. Wherever the program is stopped, the last saved state is there,
 // and OUT has at least what it counts; what stands behind is written again, the same bytes.
+#![tactic(auto)]
+
 mod disk;
 
 ghost use Rattle.std.specs.Prelude.{◌≡◌, ◌<◌, ◌≤◌, true, length};
+ghost use Rattle.std.specs.Io.{ReadsAtMost};
 ghost use Rattle.print.specs.Print.{form_room};
 ghost use Rattle.job.specs.Part.{position};
 ghost use Rattle.job_disk.specs.Disk.{Kept, Between};
@@ -13,16 +16,19 @@ use job::parts::ROOM;
 use job::{Saved, parts};
 use line_step::Progress;
 use print::FORM_ROOM;
+use std::fs::File;
+use std::io;
+use std::os::unix::fs::FileExt;
 
 // The open call and the open OUT.
-#[derive(Drop)]
-struct Fds {
-    call: i32,
-    out: i32,
+#[derive(Clone, Copy)]
+struct Fds<'a> {
+    call: &'a File,
+    out: &'a File,
 }
 
 // Between two parts: the place in the call, the files, how many frames may follow, and whether to go on.
-#[derive(Drop)]
+#[derive(Clone, Copy)]
 struct Todo {
     place: Saved,
     disk: Disk,
@@ -31,21 +37,21 @@ struct Todo {
 }
 
 // What was read of the call: how many bytes, and whether it could be read.
-#[derive(Drop)]
+#[derive(Clone, Copy)]
 struct Text {
     n: usize,
     good: bool,
 }
 
-// Where no whole line is left: how far the call is, and how many bytes stand behind what was read of it, 1 at most; below 0 where it can't be read.
-#[derive(Drop)]
+// Where no whole line is left: how far the call is, and how many bytes stand behind what was read of it, 1 at most; none where it can't be read.
+#[derive(Clone, Copy)]
 struct Ending {
     job: Progress,
-    behind: isize,
+    behind: Option<usize>,
 }
 
 // A part: 0 or the number of the refusal that ended it, the place behind it, the files, how many frames may follow, and whether it has one.
-#[derive(Drop)]
+#[derive(Clone, Copy)]
 struct Done {
     code: u32,
     place: Saved,
@@ -55,57 +61,73 @@ struct Done {
 }
 
 // Writes a call's last form, the first n bytes, to OUT behind its first `at`, and to standard output. What stood behind it in OUT is cut off.
-fn put_form(form: &[u8; FORM_ROOM], n: usize, at: u64, d: Disk, out: i32, name: &[u8])
+fn put_form(
+    rt: &HostRuntime,
+    form: &[u8; FORM_ROOM],
+    n: usize,
+    at: u64,
+    d: Disk,
+    out: &File,
+    name: &[u8],
+)
     requires { (at ≡ d.written) × (n ≤ form_room) }
 {
     let text: &[u8] = form;
-    let last = disk::put(d, out, &text[0..n], at, name);
+    let last = disk::put(rt, d, out, &text[0..n], at, name);
     if last.good {
-        if disk::cut(last, out, last.written, name) {
-            files::print(form, n);
+        if disk::cut(rt, last, out, last.written, name) {
+            files::print(rt, form, n);
         }
     }
 }
 
 // The last form of a call, behind the first `at` bytes of OUT.
-fn put_last(job: Progress, held: &[u8], at: u64, d: Disk, out: i32, name: &[u8])
+fn put_last(rt: &HostRuntime, job: Progress, held: &[u8], at: u64, d: Disk, out: &File, name: &[u8])
     requires { at ≡ d.written }
 {
     let mut form = [0u8; FORM_ROOM];
     let n = call::finish(job, held, &mut form);
-    put_form(&form, n, at, d, out, name);
+    put_form(rt, &form, n, at, d, out, name);
 }
 
 // The last form of a call that ends at this place, when its state is saved.
-fn finish(job: Progress, held: &[u8], p: Saved, d: Disk, out: i32, name: &[u8])
+fn finish(rt: &HostRuntime, job: Progress, held: &[u8], p: Saved, d: Disk, out: &File, name: &[u8])
     requires { (d.good ≡ true) × Kept p d }
 {
-    put_last(job, held, p.written, d, out, name);
+    put_last(rt, job, held, p.written, d, out, name);
 }
 
 // A line of a part is refused. No state is saved, so that the refusal is found again.
-fn refuse(p: Saved, code: u32, d: Disk, out: i32, name: &[u8])
+fn refuse(rt: &HostRuntime, p: Saved, code: u32, d: Disk, out: &File, name: &[u8])
     requires { d.written ≡ p.written }
 {
-    put_last(parts::progress_of(p, code), b"", p.written, d, out, name);
+    put_last(
+        rt,
+        parts::progress_of(p, code),
+        b"",
+        p.written,
+        d,
+        out,
+        name,
+    );
 }
 
 // Says where the job stopped, when its state is saved.
-fn print_saved(p: Saved, d: Disk)
+fn print_saved(rt: &HostRuntime, p: Saved, d: Disk)
     requires { (d.good ≡ true) × Kept p d }
 {
     let counts = p.counts;
     let mut form = [0u8; FORM_ROOM];
     let n = print::saved(counts, &mut form);
-    files::print(&form, n);
+    files::print(rt, &form, n);
 }
 
 // As many frames are done as were asked for: OUT ends with the last of them.
-fn stop(p: Saved, d: Disk, out: i32, name: &[u8])
+fn stop(rt: &HostRuntime, p: Saved, d: Disk, out: &File, name: &[u8])
     requires { (d.good ≡ true) × Kept p d }
 {
-    if disk::cut(d, out, p.written, name) {
-        print_saved(p, d);
+    if disk::cut(rt, d, out, p.written, name) {
+        print_saved(rt, p, d);
     }
 }
 
@@ -138,19 +160,28 @@ fn kept(p: Saved, d: Disk, left: u32) -> Todo
 }
 
 // Behind a part of frames: the state is saved where as many frames are done as were asked for, or where it is due.
-fn behind(b: &[i16; 234], p: Saved, d: Disk, left: u32, out: i32, state: &[u8], name: &[u8]) -> Todo
+fn behind(
+    rt: &HostRuntime,
+    b: &[i16; 234],
+    p: Saved,
+    d: Disk,
+    left: u32,
+    out: &File,
+    state: &[u8],
+    name: &[u8],
+) -> Todo
     requires { d.written ≡ p.written }
     ensures { Between result }
 {
     if left == 0 {
-        let k = disk::keep(d, b, p, out, state, name);
+        let k = disk::keep(rt, d, b, p, out, state, name);
         if k.good {
-            stop(p, k, out, name);
+            stop(rt, p, k, out, name);
         }
         return kept(p, k, 0);
     }
     if job_step::due(p, d.saved) {
-        let k = disk::keep(d, b, p, out, state, name);
+        let k = disk::keep(rt, d, b, p, out, state, name);
         return kept(p, k, left);
     }
     Todo {
@@ -163,68 +194,84 @@ fn behind(b: &[i16; 234], p: Saved, d: Disk, left: u32, out: i32, state: &[u8], 
 
 // The call ends at the place, or the line there is refused: the state is saved, then the last form is written.
 fn last(
+    rt: &HostRuntime,
     b: &[i16; 234],
     p: Saved,
     d: Disk,
     job: Progress,
     held: &[u8],
-    out: i32,
+    out: &File,
     state: &[u8],
     name: &[u8],
 )
     requires { d.written ≡ p.written }
 {
-    let k = disk::keep(d, b, p, out, state, name);
+    let k = disk::keep(rt, d, b, p, out, state, name);
     if k.good {
-        finish(job, held, p, k, out, name);
+        finish(rt, job, held, p, k, out, name);
     }
 }
 
-// How many bytes of the call stand behind these, 1 at most; below 0, with a message, where it can't be read.
-fn more_of(p: Saved, held: &[u8], call: i32) -> isize {
+// How many bytes of the call stand behind these, 1 at most; none, with a message, where it can't be read.
+fn more_of(rt: &HostRuntime, p: Saved, held: &[u8], call: &File) -> Option<usize> {
     let mut next = [0u8; 1];
     let behind = std::num::wrapping_add_u64(p.at, held.len() as u64);
-    let got = libc::pread(call, &mut next, parts::position(behind));
-    if got < 0 {
-        os::fail(b"CALL");
+    match call.read_at(&mut next, parts::position(behind).cast_unsigned()) {
+        Ok(n) => Some(n),
+        Err(e) => {
+            files::fail(rt, b"CALL", e);
+            None
+        }
     }
-    got
 }
 
 // No whole line stands at the place: a line is too long, or the call ends there unless there are bytes behind these.
-fn at_end(p: Saved, held: &[u8], call: i32) -> Ending {
+fn at_end(rt: &HostRuntime, p: Saved, held: &[u8], call: &File) -> Ending {
     let job = call::overlong(parts::progress_of(p, 0), held);
     if job.code != 0 {
-        return Ending { job, behind: 0 };
+        return Ending {
+            job,
+            behind: Some(0),
+        };
     }
     Ending {
         job,
-        behind: more_of(p, held, call),
+        behind: more_of(rt, p, held, call),
     }
 }
 
 // The job ends there, or goes on where the text does.
-fn end(b: &[i16; 234], r: Todo, held: &[u8], f: Fds, state: &[u8], name: &[u8]) -> Todo
+fn end(
+    rt: &HostRuntime,
+    b: &[i16; 234],
+    r: Todo,
+    held: &[u8],
+    f: Fds<'_>,
+    state: &[u8],
+    name: &[u8],
+) -> Todo
     requires { Between r }
     ensures { Between result }
 {
     let place = r.place;
-    let ending = at_end(place, held, f.call);
-    if ending.behind > 0 {
-        return r;
+    let ending = at_end(rt, place, held, f.call);
+    match ending.behind {
+        Some(0) => {
+            last(rt, b, place, r.disk, ending.job, held, f.out, state, name);
+            ended(r)
+        }
+        Some(_) => r,
+        None => ended(r),
     }
-    if ending.behind == 0 {
-        last(b, place, r.disk, ending.job, held, f.out, state, name);
-    }
-    ended(r)
 }
 
 // Decodes a part of the text and writes its forms.
 fn decode(
+    rt: &HostRuntime,
     t: &[i16; 1880],
     b: &mut [i16; 234],
     r: Todo,
-    out: i32,
+    out: &File,
     name: &[u8],
     input: &[u8],
     forms: &mut [u8],
@@ -234,7 +281,7 @@ fn decode(
 {
     let part = parts::part(t, b, r.place, r.left, input, forms);
     let written = part.written;
-    let disk = disk::put(r.disk, out, &forms[0..written], r.place.written, name);
+    let disk = disk::put(rt, r.disk, out, &forms[0..written], r.place.written, name);
     let place = part.place;
     Done {
         code: part.code,
@@ -247,11 +294,12 @@ fn decode(
 
 // Behind a part: no more where a file could not be written or a line is refused.
 fn settle(
+    rt: &HostRuntime,
     b: &[i16; 234],
     r: Todo,
     done: Done,
     held: &[u8],
-    f: Fds,
+    f: Fds<'_>,
     state: &[u8],
     name: &[u8],
 ) -> Todo
@@ -264,41 +312,43 @@ fn settle(
         return ended(r);
     }
     if done.code != 0 {
-        refuse(place, done.code, d, f.out, name);
+        refuse(rt, place, done.code, d, f.out, name);
         return ended(r);
     }
     if done.some {
-        return behind(b, place, d, done.left, f.out, state, name);
+        return behind(rt, b, place, d, done.left, f.out, state, name);
     }
-    end(b, r, held, f, state, name)
+    end(rt, b, r, held, f, state, name)
 }
 
 // The call's text from a place on.
-fn read_at(call: i32, input: &mut [u8], to: i64, p: Saved) -> isize
+fn read_at(call: &File, input: &mut [u8], to: i64, p: Saved) -> io::Result<usize>
     requires { to ≡ position p.at }
+    ensures { ReadsAtMost result input.new }
 {
-    libc::pread(call, input, to)
+    call.read_at(input, to.cast_unsigned())
 }
 
 // The same: how many bytes; not good, with a message, where it can't be read.
-fn read_on(call: i32, p: Saved, input: &mut [u8]) -> Text
+fn read_on(rt: &HostRuntime, call: &File, p: Saved, input: &mut [u8]) -> Text
     ensures { result.n ≤ length input.new }
 {
-    let got = read_at(call, input, parts::position(p.at), p);
-    let n = io::count(got, input);
-    if got < 0 {
-        os::fail(b"CALL");
-        return Text { n, good: false };
+    match read_at(call, input, parts::position(p.at), p) {
+        Ok(n) => Text { n, good: true },
+        Err(e) => {
+            files::fail(rt, b"CALL", e);
+            Text { n: 0, good: false }
+        }
     }
-    Text { n, good: true }
 }
 
 // One part: the text from the place on is read and decoded.
 fn step(
+    rt: &HostRuntime,
     t: &[i16; 1880],
     b: &mut [i16; 234],
     r: Todo,
-    f: Fds,
+    f: Fds<'_>,
     state: &[u8],
     name: &[u8],
     input: &mut [u8],
@@ -307,14 +357,14 @@ fn step(
     requires { Between r }
     ensures { Between result }
 {
-    let text = read_on(f.call, r.place, input);
+    let text = read_on(rt, f.call, r.place, input);
     if !text.good {
         return ended(r);
     }
     let n = text.n;
     let held = &input[0..n];
-    let done = decode(t, b, r, f.out, name, held, forms);
-    settle(b, r, done, held, f, state, name)
+    let done = decode(rt, t, b, r, f.out, name, held, forms);
+    settle(rt, b, r, done, held, f, state, name)
 }
 
 // How many turns may follow.
@@ -328,29 +378,30 @@ fn rest(most: u32, more: bool) -> u32
 // Goes on with a job whose state is saved, for at most so many frames, from the open call to the open OUT, which has what the state counts. There are fewer than 2^32 parts: each has a
 // frame, but for those that find the text longer than it was just before.
 pub fn run(
+    rt: &HostRuntime,
     t: &[i16; 1880],
     b: &mut [i16; 234],
     p: Saved,
     most: u32,
-    call: i32,
-    out: i32,
+    call: &File,
+    out: &File,
     state: &[u8],
     name: &[u8],
 ) {
     let d = disk::at(p);
     if most == 0 {
-        print_saved(p, d);
+        print_saved(rt, p, d);
         return;
     }
     let f = Fds { call, out };
-    let mut input_buffer = io::large_buffer();
+    let mut input_buffer = [0u8; 65536];
     let mut forms_buffer = [0u8; ROOM];
     let input: &mut [u8] = &mut input_buffer;
     let forms: &mut [u8] = &mut forms_buffer;
     let mut r = kept(p, d, most);
     let mut turns = 4294967295u32;
     while 0 < turns {
-        r = step(t, b, r, f, state, name, input, forms);
+        r = step(rt, t, b, r, f, state, name, input, forms);
         turns = rest(turns, r.more);
     }
 }

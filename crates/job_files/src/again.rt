@@ -1,10 +1,14 @@
 // The call of a job, read again up to the place where it goes on.
 ghost use Rattle.std.specs.Prelude.{◌≡◌, ◌-◌};
+ghost use Rattle.std.specs.Io.{ReadsAtMost};
 ghost use Rattle.job.specs.Part.{position};
 ghost use Rattle.job_files.specs.Reads.{Reads};
 
 use job::parts;
 use job::parts::Again;
+use std::fs::File;
+use std::io;
+use std::os::unix::fs::FileExt;
 
 // Bytes that were read, of a call of which `at` bytes were taken.
 fn count(a: Again, at: u64, bytes: &[u8]) -> Again
@@ -23,59 +27,63 @@ fn place(a: Again, at: u64) -> i64
 }
 
 // Reads at the place behind the bytes that were read.
-fn read_at(fd: i32, input: &mut [u8], to: i64, a: Again, at: u64) -> isize
+fn read_at(call: &File, input: &mut [u8], to: i64, a: Again, at: u64) -> io::Result<usize>
     requires { to ≡ position (at - a.left) }
+    ensures { ReadsAtMost result input.new }
 {
-    libc::pread(fd, input, to)
+    call.read_at(input, to.cast_unsigned())
 }
 
 // One read more.
-fn read_more(fd: i32, at: u64, a: Again, input: &mut [u8]) -> Again
+fn read_more(call: &File, at: u64, a: Again, input: &mut [u8]) -> Again
     requires { Reads at a }
     ensures { Reads at result }
 {
-    let got = read_at(fd, input, place(a, at), a, at);
-    let n = io::count(got, input);
+    let got = read_at(call, input, place(a, at), a, at);
+    let n = got.unwrap_or(0);
     count(a, at, &input[0..n])
 }
 
 // The same on a whole buffer.
-fn read_turn(fd: i32, at: u64, a: Again, input: &mut [u8; 65536]) -> Again
+fn read_turn(call: &File, at: u64, a: Again, input: &mut [u8; 65536]) -> Again
     requires { Reads at a }
     ensures { Reads at result }
 {
-    read_more(fd, at, a, input)
+    read_more(call, at, a, input)
 }
 
 // The bytes of the call that were taken, read again until they are all there or nothing more is read.
-pub(crate) fn taken(fd: i32, at: u64) -> Again
+pub(crate) fn taken(call: &File, at: u64) -> Again
     ensures { Reads at result }
 {
-    let mut input = io::large_buffer();
+    let mut input = [0u8; 65536];
     let mut a = Again { sum: 0, left: at };
     let mut before = 18446744073709551615u64;
     while a.left < before {
         before = a.left;
-        a = read_turn(fd, at, a, &mut input);
+        a = read_turn(call, at, a, &mut input);
     }
     a
 }
 
 // Whether the call can be read behind the bytes that were read again, or ends there.
-pub(crate) fn readable(fd: i32, at: u64, a: Again, name: &[u8]) -> bool
+pub(crate) fn readable(rt: &HostRuntime, call: &File, at: u64, a: Again, name: &[u8]) -> bool
     requires { Reads at a }
 {
     let mut next = [0u8; 1];
-    if read_at(fd, &mut next, place(a, at), a, at) < 0 {
-        os::fail(name);
-        return false;
+    match read_at(call, &mut next, place(a, at), a, at) {
+        Ok(_) => true,
+        Err(e) => {
+            files::fail(rt, name, e);
+            false
+        }
     }
-    true
 }
 
 // Another call than the one that the job was begun with.
-pub(crate) fn refuse(code: u32, name: &[u8]) {
+pub(crate) fn refuse(rt: &HostRuntime, code: u32, name: &[u8]) {
     files::refuse(
+        rt,
         code,
         name,
         b"another call than the one that this job was begun with, or shorter: take the right CALL",

@@ -8,9 +8,9 @@ fn begins(text: &[u8], form: &[u8]) -> bool {
     let n = text.len();
     let m = form.len();
     if n < m {
-        return check::same(text, &form[0..n]);
+        return text::same(text, &form[0..n]);
     }
-    check::same(&text[0..m], form)
+    text::same(&text[0..m], form)
 }
 
 // Whether OUT begins with what the front of the call prints: its first frame, or a last form where it has none.

@@ -1,5 +1,7 @@
 // A job resumed: everything is looked at by name or opened for reading first, in the order of the refusals, and only then something is written, by crate job_disk. Each
 // refusal is a form on standard output with line 0 and a line on standard error that says what to do, and leaves every file as it was.
+#![tactic(auto)]
+
 ghost use Rattle.std.specs.Prelude.{◌≡◌};
 ghost use Rattle.job.specs.Part.{call_check};
 ghost use Rattle.job_files.specs.Reads.{Reads};
@@ -14,78 +16,79 @@ use job::Saved;
 use job::parts::Again;
 use names::Names;
 use print::FORM_ROOM;
+use std::fs::File;
 
 // A refusal of the table file, whose reason `files` says.
-fn refuse_tables(code: u32) {
+fn refuse_tables(rt: &HostRuntime, code: u32) {
     let mut form = [0u8; FORM_ROOM];
     let n = print::refused(code, 0, &mut form);
-    files::print(&form, n);
+    files::print(rt, &form, n);
 }
 
 // OUT opened or made, and the job run, whose call was read again.
 fn run(
+    rt: &HostRuntime,
     t: &[i16; 1880],
     b: &mut [i16; 234],
     p: Saved,
     a: Again,
     most: u32,
-    call: i32,
+    call: &File,
     state: &[u8],
     out: &[u8],
     there: bool,
 )
     requires { Reads p.at a × (call_check p a ≡ 0) }
 {
-    let fd = output::open(out, there);
-    if fd < 0 {
-        return;
+    if let Some(file) = output::open(rt, out, there) {
+        job_disk::run(rt, t, b, p, most, call, &file, state, out);
     }
-    job_disk::run(t, b, p, most, call, fd, state, out);
-    libc::close(fd);
 }
 
 // The job whose call is open. A new job's state is written before OUT is made.
 fn go_on(
+    rt: &HostRuntime,
     t: &[i16; 1880],
     b: &mut [i16; 234],
     tables: u32,
     most: u32,
     n: Names,
-    fd: i32,
+    from: &File,
     call: &[u8],
     state: &[u8],
     aside: &[u8],
     out: &[u8],
 ) {
-    let s = begin::begin(state, tables, b);
+    let s = begin::begin(rt, state, tables, b);
     if !s.good {
         return;
     }
     let place = s.place;
-    if !begin::left(aside, n.aside) {
+    if !begin::left(rt, aside, n.aside) {
         return;
     }
-    let a = again::taken(fd, place.at);
-    if !again::readable(fd, place.at, a, call) {
+    let a = again::taken(from, place.at);
+    if !again::readable(rt, from, place.at, a, call) {
         return;
     }
     let code = job::parts::call_check(place, a);
     if code != 0 {
-        again::refuse(code, call);
+        again::refuse(rt, code, call);
         return;
     }
     let o = n.out;
-    if !output::is_out(t, b, place, fd, call, out, o) {
+    if !output::is_out(rt, t, b, place, from, call, out, o) {
         return;
     }
-    if s.fresh && !job_disk::begin(state, b, tables) {
+    if s.fresh && !job_disk::begin(rt, state, b, tables) {
         return;
     }
-    run(t, b, place, a, most, fd, state, out, o.there);
+    run(rt, t, b, place, a, most, from, state, out, o.there);
 }
 
 // The job whose tables are read: the names are looked at, and the call opened.
 fn open(
+    rt: &HostRuntime,
     t: &[i16; 1880],
     b: &mut [i16; 234],
     sum: u32,
@@ -96,39 +99,37 @@ fn open(
     aside: &[u8],
     out: &[u8],
 ) {
-    let n = names::look(tables, call, state, out, aside);
+    let n = names::look(rt, tables, call, state, out, aside);
     if !n.good {
         return;
     }
-    if !names::usable(n, call, state, out, aside) {
+    if !names::usable(rt, n, call, state, out, aside) {
         return;
     }
-    let fd = os::open_read(call);
-    if fd < 0 {
-        os::fail(call);
-        return;
+    match files::open(rt, call) {
+        Ok(from) => go_on(rt, t, b, sum, most, n, &from, call, state, aside, out),
+        Err(e) => files::fail(rt, call, e),
     }
-    go_on(t, b, sum, most, n, fd, call, state, aside, out);
-    libc::close(fd);
 }
 
 // Goes on with the job of the file `state`, or begins one where there is none: at most `most` frames of `call`, to `out`.
-pub fn resume(tables: &[u8], call: &[u8], state: &[u8], out: &[u8], most: u32) {
+pub fn resume(rt: &HostRuntime, tables: &[u8], call: &[u8], state: &[u8], out: &[u8], most: u32) {
     let mut t = [0i16; 1880];
     let mut b = [0i16; 234];
-    let checked = files::tables(tables, &mut t, &mut b);
+    let checked = files::tables(rt, tables, &mut t, &mut b);
     let sum = checked.sum;
     if checked.code != 0 {
-        refuse_tables(checked.code);
+        refuse_tables(rt, checked.code);
         return;
     }
-    let mut aside = io::buffer();
+    let mut aside = [0u8; 4096];
     let n = job::names::aside(state, &mut aside);
     if n == 0 {
-        files::say(state, b"the name is too long for a file beside it");
+        files::say(rt, state, b"the name is too long for a file beside it");
         return;
     }
     open(
+        rt,
         &t,
         &mut b,
         sum,

@@ -150,7 +150,7 @@ pub second_lt : (p : SpeechParams) → T (fits widths (listed p)) → joined (dr
 unfolding widths sum
 second_lt p t = joined_lt (drop 7 widths) (drop 7 (listed p)) (fits_drop 7 widths (listed p) t)
 
--- a whole list copied over one of its length, as `bytes::copy` leaves it
+-- a whole list copied over one of its length, as `octets::copy` leaves it
 pub copied : (v lent out : List ℕ) → length v ≡ length lent → out ≡ take (length v) v ++ drop (length v) lent → out ≡ v
 copied v lent out h e = rw (e, take-length, drop_of_length-le lent {i = length v} (omega arith), append-nil)
 

@@ -1,4 +1,4 @@
--- What change request 7 claims of writing and reading frames, on the definitions of the calls; proved in Undo.antt.
+-- What change request 7 claims of writing and reading frames, on the definitions of the calls; proved in proofs/Undo.antt.
 use Rattle.std.specs.Prelude.{◌≡◌, Bool, true, false, List, ◌++◌, ℕ, ◌-◌, ◌<◌, length, get_or, take, drop}
 use Rattle.bitstream.specs.Fields.{unpack, fields_call, answer}
 use Rattle.pitch.specs.Pitch.{parity_ok}

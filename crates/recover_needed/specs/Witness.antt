@@ -26,6 +26,10 @@ use Rattle.state.specs.declared.Params.{Params}
 use Rattle.state.specs.State as state
 use Rattle.state.specs.State.{Signal, State, read, read_signal, write, fresh, accepted_state}
 use Rattle.state.specs.Laws.{read_write, fresh_sized}
+use Rattle.bitstream.specs.Fields as bitstream
+use Rattle.kind.specs.Kind as kind
+use Rattle.plc.specs.Kinds as plc
+use Rattle.parameters.specs.Parts.{Parts}
 use Rattle.parameters.specs.declared.Subframe.{Subframe}
 use Rattle.parameters.specs.declared.Decoded.{Decoded}
 use Rattle.decoder.specs.Frame as decoder
@@ -369,13 +373,53 @@ no_fixed_gain : (code mem : List ℤ) → gain.fixed_gain tables 0 0 code mem �
 unfolding Run Shown
 no_fixed_gain code mem = no_gain (gain.predict tables code mem).mantissa (op.sub (gain.predict tables code mem).exponent (pos 4))
 
-first_silent : (s : State) → (frame_of call s).decoded.first ≡ plain (frame_of call s).decoded.first.a
+-- a subframe by its values
+plain_is : (v : Subframe) → v.delay ≡ record { integer = pos 40; fraction = pos 0 } → v.gp ≡ pos 16384 → v.gc ≡ pos 0 → v.code ≡ (plain []).code → v ≡ plain v.a
+unfolding plain subframe_of
+plain_is v d p c k = λ i. record { delay = d i; gp = p i; gc = c i; code = k i; a = v.a }
+
+-- the definitions that hand a gain up, but not its own
+unfoldable Handed : Type 0
+unfolding call frame_of plc.decide decoder.decode Parts gain.decode kind.payload_length bitstream.number bitstream.bits bitstream.widths bitstream.sum bitstream.cut bitstream.fields bitstream.unpack
+Handed = Unit {0}
+
+first_delay : (s : State) → (frame_of call s).decoded.first.delay ≡ record { integer = pos 40; fraction = pos 0 }
+unfolding Run Shown
+first_delay s = refl
+
+first_gp : (s : State) → (frame_of call s).decoded.first.gp ≡ pos 16384
+unfolding Run Shown
+first_gp s = refl
+
+first_gc : (s : State) → (frame_of call s).decoded.first.gc ≡ pos 0
+unfolding Handed
+first_gc s = no_fixed_gain _ _
+
+first_code : (s : State) → (frame_of call s).decoded.first.code ≡ (plain []).code
 unfolding Run Shown plain
-first_silent s = λ i. record { delay = record { integer = pos 40; fraction = pos 0 }; gp = pos 16384; gc = no_fixed_gain (plain []).code s.params.gain.mem i; code = (plain []).code; a = (frame_of call s).decoded.first.a }
+first_code s = refl
+
+first_silent : (s : State) → (frame_of call s).decoded.first ≡ plain (frame_of call s).decoded.first.a
+first_silent s = plain_is (frame_of call s).decoded.first (first_delay s) (first_gp s) (first_gc s) (first_code s)
+
+second_delay : (s : State) → (frame_of call s).decoded.second.delay ≡ record { integer = pos 40; fraction = pos 0 }
+unfolding Run Shown
+second_delay s = refl
+
+second_gp : (s : State) → (frame_of call s).decoded.second.gp ≡ pos 16384
+unfolding Run Shown
+second_gp s = refl
+
+second_gc : (s : State) → (frame_of call s).decoded.second.gc ≡ pos 0
+unfolding Handed
+second_gc s = no_fixed_gain _ _
+
+second_code : (s : State) → (frame_of call s).decoded.second.code ≡ (plain []).code
+unfolding Run Shown plain
+second_code s = refl
 
 second_silent : (s : State) → (frame_of call s).decoded.second ≡ plain (frame_of call s).decoded.second.a
-unfolding Run Shown plain
-second_silent s = λ i. record { delay = record { integer = pos 40; fraction = pos 0 }; gp = pos 16384; gc = no_fixed_gain (plain []).code (gain.push s.params.gain.mem (gain.gain_error tables 0 0)) i; code = (plain []).code; a = (frame_of call s).decoded.second.a }
+second_silent s = plain_is (frame_of call s).decoded.second (second_delay s) (second_gp s) (second_gc s) (second_code s)
 
 -- where the past excitation is 0, so is that of the subframe, shrunk or not
 silent_words : (second : Bool) → synth.excitation second (plain []).code (pos 16384) (pos 0) (adaptive.adaptive_vector (layout.b30 tables) second (pos 40) (pos 0) (zeros 234)) ≡ zeros 234

@@ -1,4 +1,6 @@
 // What the programs that replay stored answers share: the hexadecimal words of a line, its parts, how many values agree, and what is read and printed.
+#![tactic(auto)]
+
 ghost use Rattle.std.specs.Prelude.{◌≡◌, cond, ◌-◌, ◌≤◌};
 
 pub mod hex;

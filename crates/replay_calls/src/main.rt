@@ -1,14 +1,16 @@
 // Replays texts of calls through crate read_step, in reads of given sizes, and prints what they give; what must be printed is the Rust's answer.
 // Standard input: 3,760 bytes of tables; then for each call four numbers of four bytes, low byte first (length of the text, bytes of a read, the lines, each a
 // frame, and lost frames to start with) and its text, at most 65,536 bytes.
+#![tactic(auto)]
+
 ghost use Rattle.std.specs.Prelude.{◌≤◌, ◌<◌, ◌+◌, length};
 ghost use Rattle.print.specs.Print.{form_room};
 ghost use Rattle.read_step.specs.Reading.{input_room};
 
-use libc::{STDIN_FILENO, STDOUT_FILENO};
 use line_step::Progress;
 use print::FORM_ROOM;
 use read_step::{INPUT, OUTPUT, Reading};
+use replay::stream;
 
 // As many reads or calls as there can be.
 const MOST: u32 = 4294967295;
@@ -36,7 +38,8 @@ fn feed(text: &[u8], at: usize, size: usize, input: &mut [u8], to: usize) -> usi
 }
 
 // One read, and what its lines print. None follows the end or a refusal.
-fn turn(
+fn turn<R: Print>(
+    rt: &R,
     t: &[i16],
     b: &mut [i16],
     p: Place,
@@ -54,7 +57,7 @@ fn turn(
     let call = read_step::read_step(t, b, from, got, input, out);
     let printed: &[u8] = out;
     let written = call.written;
-    io::write_all(STDOUT_FILENO, &printed[0..written]);
+    stream::print_text(rt, &printed[0..written]);
     Place {
         call,
         at,
@@ -62,15 +65,15 @@ fn turn(
     }
 }
 
-fn write_form(form: &[u8; FORM_ROOM], n: usize)
+fn write_form<R: Print>(rt: &R, form: &[u8; FORM_ROOM], n: usize)
     requires { n ≤ form_room }
 {
     let text: &[u8] = form;
-    io::write_all(STDOUT_FILENO, &text[0..n]);
+    stream::print_text(rt, &text[0..n]);
 }
 
 // One call.
-fn replay(t: &[i16], b: &mut [i16], call: Reading, text: &[u8], size: usize)
+fn replay<R: Print>(rt: &R, t: &[i16], b: &mut [i16], call: Reading, text: &[u8], size: usize)
     requires { call.held ≤ input_room }
 {
     let mut input = [0u8; INPUT];
@@ -82,13 +85,13 @@ fn replay(t: &[i16], b: &mut [i16], call: Reading, text: &[u8], size: usize)
     };
     let mut most: u32 = MOST;
     while 0 < most {
-        p = turn(t, b, p, text, size, &mut input, &mut out);
+        p = turn(rt, t, b, p, text, size, &mut input, &mut out);
         most = replay::rest(most, p.more);
     }
     let last = p.call;
     let mut form = [0u8; FORM_ROOM];
     let n = read_step::finish(last, &input, &mut form);
-    write_form(&form, n);
+    write_form(rt, &form, n);
 }
 
 // Number k of a call's four.
@@ -105,10 +108,10 @@ fn number(head: &[u8], k: usize) -> usize
 }
 
 // The next call. False at the end.
-fn case(t: &[i16], b: &mut [i16], text: &mut [u8]) -> bool {
+fn case<R: Input + Print>(rt: &R, t: &[i16], b: &mut [i16], text: &mut [u8]) -> bool {
     let mut space = [0u8; 16];
     let head: &mut [u8] = &mut space;
-    let n = io::read_full(STDIN_FILENO, head);
+    let n = stream::read_full(rt, head);
     if n < 16 {
         return false;
     }
@@ -128,22 +131,22 @@ fn case(t: &[i16], b: &mut [i16], text: &mut [u8]) -> bool {
     };
     let size = number(head, 1);
     state::fresh_state(t, b);
-    let got = io::read_full(STDIN_FILENO, &mut text[0..length]);
-    replay(t, b, call, &text[0..length], size);
+    let got = stream::read_full(rt, &mut text[0..length]);
+    replay(rt, t, b, call, &text[0..length], size);
     got == length
 }
 
-fn main() {
+fn main(rt: HostRuntime) {
     let mut file = [0u8; 3760];
     let mut t = [0i16; 1880];
     let mut b = [0i16; 234];
-    io::read_full(STDIN_FILENO, &mut file);
+    stream::read_full(&rt, &mut file);
     call::begin(&file, &mut t, &mut b);
-    let mut text_buffer = io::large_buffer();
+    let mut text_buffer = [0u8; 65536];
     let text: &mut [u8] = &mut text_buffer;
     let mut most: u32 = MOST;
     while 0 < most {
-        let more = case(&t, &mut b, text);
+        let more = case(&rt, &t, &mut b, text);
         most = replay::rest(most, more);
     }
 }

@@ -1,64 +1,84 @@
 // The comparison with a far decoder whose state is not known (crate compare_step), replayed. Standard input has lines of fixed sizes, a letter and words of four
 // hexadecimal digits. T: the tables. N: a new comparison. F: kind, payload (10), the 80 samples of the far decoder. Each N and each F prints a line.
 // oracle/far writes it, and what must be printed, from a reference in Rust.
+#![tactic(auto)]
+
 mod show;
 
 use compare_step::COMPARE_LENGTH;
-use libc::STDIN_FILENO;
 use replay::{part, stream};
 
-fn table_line(t: &mut [i16; 1880]) -> bool {
+fn table_line<R: Input>(rt: &R, t: &mut [i16; 1880]) -> bool {
     let mut text = [0u8; 7521];
-    stream::read_words(&mut text, t)
+    stream::read_words(rt, &mut text, t)
 }
 
-fn new_line(t: &[i16; 1880], m: &mut [i16; COMPARE_LENGTH]) -> bool {
+fn new_line<R: Input + Print>(rt: &R, t: &[i16; 1880], m: &mut [i16; COMPARE_LENGTH]) -> bool {
     let mut text = [0u8; 1];
-    let n = io::read_full(STDIN_FILENO, &mut text);
-    show::begun(compare_step::begin(t, m));
+    let n = stream::read_full(rt, &mut text);
+    show::begun(rt, compare_step::begin(t, m));
     n == 1
 }
 
 // A frame with as much of the payload as its kind has. Where nothing is computed the samples of an earlier frame stay in `out`.
-fn frame(t: &[i16; 1880], m: &mut [i16; COMPARE_LENGTH], line: &[i16; 91], out: &mut [i16; 80]) {
+fn frame<R: Print>(
+    rt: &R,
+    t: &[i16; 1880],
+    m: &mut [i16; COMPARE_LENGTH],
+    line: &[i16; 91],
+    out: &mut [i16; 80],
+) {
     let kind = part::number(line, 0) as u32;
     let payload = part::payload(line);
     let bytes: &[u8] = &payload;
     let n = words::lesser(kind::payload_length(kind), bytes.len());
     let mut far = [0i16; 80];
     part::fill(line, 11, &mut far);
-    show::answer(compare_step::compare(t, m, kind, &bytes[0..n], &far, out));
-    show::computed(out);
+    show::answer(
+        rt,
+        compare_step::compare(t, m, kind, &bytes[0..n], &far, out),
+    );
+    show::computed(rt, out);
 }
 
-fn frame_line(t: &[i16; 1880], m: &mut [i16; COMPARE_LENGTH], out: &mut [i16; 80]) -> bool {
+fn frame_line<R: Input + Print>(
+    rt: &R,
+    t: &[i16; 1880],
+    m: &mut [i16; COMPARE_LENGTH],
+    out: &mut [i16; 80],
+) -> bool {
     let mut text = [0u8; 365];
     let mut line = [0i16; 91];
-    if stream::read_words(&mut text, &mut line) {
-        frame(t, m, &line, out);
+    if stream::read_words(rt, &mut text, &mut line) {
+        frame(rt, t, m, &line, out);
         return true;
     }
     false
 }
 
 // The next line. False at the end.
-fn line(t: &mut [i16; 1880], m: &mut [i16; COMPARE_LENGTH], out: &mut [i16; 80]) -> bool {
-    match stream::letter() {
-        b'T' => table_line(t),
-        b'N' => new_line(t, m),
-        b'F' => frame_line(t, m, out),
+fn line<R: Input + Print>(
+    rt: &R,
+    t: &mut [i16; 1880],
+    m: &mut [i16; COMPARE_LENGTH],
+    out: &mut [i16; 80],
+) -> bool {
+    match stream::letter(rt) {
+        b'T' => table_line(rt, t),
+        b'N' => new_line(rt, t, m),
+        b'F' => frame_line(rt, t, m, out),
         _ => false,
     }
 }
 
 // All lines, up to 2^32 - 1.
-fn main() {
+fn main(rt: HostRuntime) {
     let mut t = [0i16; 1880];
     let mut m = [0i16; COMPARE_LENGTH];
     let mut out = [0i16; 80];
     let mut most: u32 = 4294967295;
     while 0 < most {
-        let more = line(&mut t, &mut m, &mut out);
+        let more = line(&rt, &mut t, &mut m, &mut out);
         most = replay::rest(most, more);
     }
 }

@@ -1,8 +1,10 @@
 // The delays of every P1 with both P0, every P2 and every carried delay that 01 accepts: a line for each P1, with the CRC-32 of all that `voice_delays` gives, first
 // for the fields as they are, then with bits set above them, which are not read. The last line is that of erased frames. `g729-oracle delays` writes what
 // must be printed, from the Rust.
-use libc::STDOUT_FILENO;
+#![tactic(auto)]
+
 use pitch::{Delays, PitchState};
+use replay::stream;
 
 // The least carried delay, and the first that is not accepted.
 const LEAST: u16 = 19;
@@ -64,40 +66,43 @@ fn erased() -> u32 {
     c
 }
 
-fn text(bytes: &[u8]) {
-    io::write_all(STDOUT_FILENO, bytes);
+fn text<R: Print>(rt: &R, bytes: &[u8]) {
+    stream::print_text(rt, bytes);
 }
 
-fn print_sum(sum: u32) {
-    io::print_hex(STDOUT_FILENO, sum as u64, 8);
+fn print_sum<R: Print>(rt: &R, sum: u32) {
+    stream::print_hex(rt, sum as u64, 8);
 }
 
 // The line of a P1.
-fn line(p1: u16) {
-    text(b"p1 ");
-    io::print_decimal(STDOUT_FILENO, p1 as u64);
-    text(b" ");
-    print_sum(second(second(0, p1, 0, 0), p1, 1, 0));
-    text(b" ");
+fn line<R: Print>(rt: &R, p1: u16) {
+    text(rt, b"p1 ");
+    stream::print_decimal(rt, p1 as u64);
+    text(rt, b" ");
+    print_sum(rt, second(second(0, p1, 0, 0), p1, 1, 0));
+    text(rt, b" ");
     let above = p1 | ABOVE_P1;
-    print_sum(second(
-        second(0, above, ABOVE_P0, ABOVE_P2),
-        above,
-        ABOVE_P0 | 1,
-        ABOVE_P2,
-    ));
-    text(b"\n");
+    print_sum(
+        rt,
+        second(
+            second(0, above, ABOVE_P0, ABOVE_P2),
+            above,
+            ABOVE_P0 | 1,
+            ABOVE_P2,
+        ),
+    );
+    text(rt, b"\n");
 }
 
-fn voice() {
+fn voice<R: Print>(rt: &R) {
     for p1 in 0..256u16 {
-        line(p1);
+        line(rt, p1);
     }
 }
 
-fn main() {
-    voice();
-    text(b"erased ");
-    print_sum(erased());
-    text(b"\n");
+fn main(rt: HostRuntime) {
+    voice(&rt);
+    text(&rt, b"erased ");
+    print_sum(&rt, erased());
+    text(&rt, b"\n");
 }

@@ -19,18 +19,19 @@ pub const REFUSALS: usize = 7;
 
 pub const UNCHANGED: usize = 8;
 
-pub(crate) fn print(tally: &[u32; 64]) {
+pub(crate) fn print<R: Print>(rt: &R, tally: &[u32; 64]) {
     stream::print_two(
+        rt,
         b"calls ",
         tally::compared(tally, CALLS),
         b" frames ",
         tally::compared(tally, FRAMES),
     );
-    stream::print_row(b"answers", tally, ANSWERS);
-    stream::print_row(b"whole, samples", tally, WHOLE_SAMPLES);
-    stream::print_row(b"whole, states", tally, WHOLE_STATES);
-    stream::print_row(b"resumed, samples", tally, RESUMED_SAMPLES);
-    stream::print_row(b"resumed, states", tally, RESUMED_STATES);
-    stream::print_row(b"refusals", tally, REFUSALS);
-    stream::print_row(b"unchanged after a refusal", tally, UNCHANGED);
+    stream::print_row(rt, b"answers", tally, ANSWERS);
+    stream::print_row(rt, b"whole, samples", tally, WHOLE_SAMPLES);
+    stream::print_row(rt, b"whole, states", tally, WHOLE_STATES);
+    stream::print_row(rt, b"resumed, samples", tally, RESUMED_SAMPLES);
+    stream::print_row(rt, b"resumed, states", tally, RESUMED_STATES);
+    stream::print_row(rt, b"refusals", tally, REFUSALS);
+    stream::print_row(rt, b"unchanged after a refusal", tally, UNCHANGED);
 }

@@ -2,6 +2,8 @@
 // four hexadecimal digits. T: a law; the sample of each byte; the byte that each of these samples is written as. Every other sample must be refused. C: a call, its law in two words;
 // how many bytes and how many samples; the place of a sample that is no table value; the codes of reading and of writing. oracle/g711 writes it with another codec, some rows wrong on
 // purpose. Prints how many values were compared and differ.
+#![tactic(auto)]
+
 ghost use Rattle.std.specs.Prelude.{◌≤◌};
 
 mod rows;
@@ -100,10 +102,10 @@ fn write_each(law: u32, answers: &[i16; ANSWERS], tally: &mut [u32; 64]) {
     }
 }
 
-fn answers_line(tally: &mut [u32; 64]) -> bool {
+fn answers_line<R: Input>(rt: &R, tally: &mut [u32; 64]) -> bool {
     let mut text = [0u8; 2053];
     let mut answers = [0i16; ANSWERS];
-    let whole = stream::read_words(&mut text, &mut answers);
+    let whole = stream::read_words(rt, &mut text, &mut answers);
     if whole {
         let law = part::number(&answers, 0) as u32;
         read_all(law, &answers, tally);
@@ -187,10 +189,10 @@ fn write_case(law: u32, n: usize, m: usize, place: usize, code: u32, tally: &mut
     }
 }
 
-fn call_line(tally: &mut [u32; 64]) -> bool {
+fn call_line<R: Input>(rt: &R, tally: &mut [u32; 64]) -> bool {
     let mut text = [0u8; 29];
     let mut line = [0i16; 7];
-    let whole = stream::read_words(&mut text, &mut line);
+    let whole = stream::read_words(rt, &mut text, &mut line);
     if whole {
         let law = 65536 * (part::number(&line, 0) as u32) + part::number(&line, 1) as u32;
         let n = words::lesser(part::number(&line, 2) as usize, MOST);
@@ -203,21 +205,21 @@ fn call_line(tally: &mut [u32; 64]) -> bool {
 }
 
 // The next line. False at the end.
-fn line(tally: &mut [u32; 64]) -> bool {
-    match stream::letter() {
-        b'T' => answers_line(tally),
-        b'C' => call_line(tally),
+fn line<R: Input>(rt: &R, tally: &mut [u32; 64]) -> bool {
+    match stream::letter(rt) {
+        b'T' => answers_line(rt, tally),
+        b'C' => call_line(rt, tally),
         _ => false,
     }
 }
 
 // All lines, up to 2^32 - 1.
-fn main() {
+fn main(rt: HostRuntime) {
     let mut tally = [0u32; 64];
     let mut most: u32 = 4294967295;
     while 0 < most {
-        let more = line(&mut tally);
+        let more = line(&rt, &mut tally);
         most = replay::rest(most, more);
     }
-    rows::print_all(&tally);
+    rows::print_all(&rt, &tally);
 }

@@ -24,15 +24,15 @@ pub const CALL: usize = 8;
 
 pub const KEPT: usize = 9;
 
-pub(crate) fn print_all(tally: &[u32; 64]) {
-    stream::print_row(b"g711::read, all bytes, code", tally, READ_CODE);
-    stream::print_row(b"g711::read, all bytes", tally, READ);
-    stream::print_row(b"g711::write, their samples, code", tally, WRITE_CODE);
-    stream::print_row(b"g711::write, their samples", tally, WRITE);
-    stream::print_row(b"g711::write, each sample, code", tally, TAKEN);
-    stream::print_row(b"g711::write, each sample", tally, ONE);
-    stream::print_row(b"no table value, code", tally, REFUSED);
-    stream::print_row(b"no table value, nothing written", tally, UNTOUCHED);
-    stream::print_row(b"calls, code", tally, CALL);
-    stream::print_row(b"refused calls, nothing written", tally, KEPT);
+pub(crate) fn print_all<R: Print>(rt: &R, tally: &[u32; 64]) {
+    stream::print_row(rt, b"g711::read, all bytes, code", tally, READ_CODE);
+    stream::print_row(rt, b"g711::read, all bytes", tally, READ);
+    stream::print_row(rt, b"g711::write, their samples, code", tally, WRITE_CODE);
+    stream::print_row(rt, b"g711::write, their samples", tally, WRITE);
+    stream::print_row(rt, b"g711::write, each sample, code", tally, TAKEN);
+    stream::print_row(rt, b"g711::write, each sample", tally, ONE);
+    stream::print_row(rt, b"no table value, code", tally, REFUSED);
+    stream::print_row(rt, b"no table value, nothing written", tally, UNTOUCHED);
+    stream::print_row(rt, b"calls, code", tally, CALL);
+    stream::print_row(rt, b"refused calls, nothing written", tally, KEPT);
 }

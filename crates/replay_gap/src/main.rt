@@ -1,10 +1,11 @@
 // Two decoders through a gap (docs/AGREEMENT.md): they begin fresh, get unlike pasts, then the same frames, and what each makes of these is printed, with
 // what is equal. Standard input has lines of fixed sizes, a letter and words of four hexadecimal digits. T: the tables. P: a new pair of decoders, both fresh.
 // A, B: kind, how many times, payload: frames for that decoder alone. C: kind, payload: a frame for both. oracle/gap writes it, and what must be printed, with the Rust's values.
+#![tactic(auto)]
+
 mod show;
 mod values;
 
-use libc::{STDIN_FILENO, STDOUT_FILENO};
 use replay::{part, stream};
 use values::LENGTH;
 
@@ -18,17 +19,18 @@ const CONCEALED_A: usize = 2;
 const CONCEALED_B: usize = 3;
 
 // Prints a refusal, and answers its number.
-fn refused(code: u32) -> u32 {
+fn refused<R: Print>(rt: &R, code: u32) -> u32 {
     if code != 0 {
-        io::write_all(STDOUT_FILENO, b"refused ");
-        io::print_decimal(STDOUT_FILENO, code as u64);
-        io::write_all(STDOUT_FILENO, b"\n");
+        stream::print_text(rt, b"refused ");
+        stream::print_decimal(rt, code as u64);
+        stream::print_text(rt, b"\n");
     }
     code
 }
 
 // A frame with as much of the payload as its kind has. Answers 0 or the refusal.
-fn frame(
+fn frame<R: Print>(
+    rt: &R,
     t: &[i16; 1880],
     b: &mut [i16; 234],
     kind: u32,
@@ -37,7 +39,10 @@ fn frame(
 ) -> u32 {
     let bytes: &[u8] = &payload;
     let n = words::lesser(kind::payload_length(kind), bytes.len());
-    refused(decoder::code(decoder::frame(t, b, kind, &bytes[0..n], out)))
+    refused(
+        rt,
+        decoder::code(decoder::frame(t, b, kind, &bytes[0..n], out)),
+    )
 }
 
 // One more, and no more than fits.
@@ -63,35 +68,51 @@ fn payload(line: &[i16; 12]) -> [u8; 10] {
 }
 
 // The frame of a line as many times as it says. Answers how many frames the decoder has concealed then.
-fn past(t: &[i16; 1880], b: &mut [i16; 234], line: &[i16; 12], count: u32) -> u32 {
+fn past<R: Print>(
+    rt: &R,
+    t: &[i16; 1880],
+    b: &mut [i16; 234],
+    line: &[i16; 12],
+    count: u32,
+) -> u32 {
     let kind = part::number(line, 0) as u32;
     let bytes = payload(line);
     let mut out = [0i16; 80];
     let mut n = count;
     let mut left = part::number(line, 1);
     while 0 < left {
-        let code = frame(t, b, kind, bytes, &mut out);
+        let code = frame(rt, t, b, kind, bytes, &mut out);
         n = concealed(n, kind, code);
         left -= 1;
     }
     n
 }
 
-fn line_a(t: &[i16; 1880], a: &mut [i16; 234], counts: &mut [u32; 4]) -> bool {
+fn line_a<R: Input + Print>(
+    rt: &R,
+    t: &[i16; 1880],
+    a: &mut [i16; 234],
+    counts: &mut [u32; 4],
+) -> bool {
     let mut text = [0u8; 49];
     let mut line = [0i16; 12];
-    if stream::read_words(&mut text, &mut line) {
-        counts[CONCEALED_A] = past(t, a, &line, counts[CONCEALED_A]);
+    if stream::read_words(rt, &mut text, &mut line) {
+        counts[CONCEALED_A] = past(rt, t, a, &line, counts[CONCEALED_A]);
         return true;
     }
     false
 }
 
-fn line_b(t: &[i16; 1880], b: &mut [i16; 234], counts: &mut [u32; 4]) -> bool {
+fn line_b<R: Input + Print>(
+    rt: &R,
+    t: &[i16; 1880],
+    b: &mut [i16; 234],
+    counts: &mut [u32; 4],
+) -> bool {
     let mut text = [0u8; 49];
     let mut line = [0i16; 12];
-    if stream::read_words(&mut text, &mut line) {
-        counts[CONCEALED_B] = past(t, b, &line, counts[CONCEALED_B]);
+    if stream::read_words(rt, &mut text, &mut line) {
+        counts[CONCEALED_B] = past(rt, t, b, &line, counts[CONCEALED_B]);
         return true;
     }
     false
@@ -99,21 +120,22 @@ fn line_b(t: &[i16; 1880], b: &mut [i16; 234], counts: &mut [u32; 4]) -> bool {
 
 // ---- lines for both
 
-fn table_line(t: &mut [i16; 1880]) -> bool {
+fn table_line<R: Input>(rt: &R, t: &mut [i16; 1880]) -> bool {
     let mut text = [0u8; 7521];
-    stream::read_words(&mut text, t)
+    stream::read_words(rt, &mut text, t)
 }
 
-fn pair_line(
+fn pair_line<R: Input + Print>(
+    rt: &R,
     t: &[i16; 1880],
     a: &mut [i16; 234],
     b: &mut [i16; 234],
     counts: &mut [u32; 4],
 ) -> bool {
     let mut text = [0u8; 1];
-    let n = io::read_full(STDIN_FILENO, &mut text);
-    refused(state::fresh_state(t, a));
-    refused(state::fresh_state(t, b));
+    let n = stream::read_full(rt, &mut text);
+    refused(rt, state::fresh_state(t, a));
+    refused(rt, state::fresh_state(t, b));
     counts[PAIRS] = one_more(counts[PAIRS]);
     counts[FRAMES] = 0;
     counts[CONCEALED_A] = 0;
@@ -122,7 +144,8 @@ fn pair_line(
 }
 
 // A frame by one decoder, and its values. Answers 0 or the refusal.
-fn decode(
+fn decode<R: Print>(
+    rt: &R,
     t: &[i16; 1880],
     b: &mut [i16; 234],
     kind: u32,
@@ -135,16 +158,16 @@ fn decode(
         parameters::parameters(t, plc::decide(kind, &payload), state::read_params(b)),
         v,
     );
-    let code = frame(t, b, kind, payload, &mut out);
+    let code = frame(rt, t, b, kind, payload, &mut out);
     values::samples(&out, v);
     code
 }
 
 // What the states of both tell of this frame and of all later ones that both get: 0 nothing, 1 parameters, 2 pulses too, 3 samples too.
-fn told(a: &[i16; 234], b: &[i16; 234]) -> u32 {
+fn told<R: Print>(rt: &R, a: &[i16; 234], b: &[i16; 234]) -> u32 {
     let answer = agree::agree(a, b);
     match answer {
-        agree::Agreed::Refused(n) => refused(n),
+        agree::Agreed::Refused(n) => refused(rt, n),
         agree::Agreed::Nothing => 0,
         agree::Agreed::Parameters => 1,
         agree::Agreed::Pulses => 2,
@@ -153,7 +176,8 @@ fn told(a: &[i16; 234], b: &[i16; 234]) -> u32 {
 }
 
 // A frame for both, and what is printed of it: nothing but the refusals where one is refused.
-fn common(
+fn common<R: Print>(
+    rt: &R,
     t: &[i16; 1880],
     a: &mut [i16; 234],
     b: &mut [i16; 234],
@@ -164,21 +188,22 @@ fn common(
     let payload = part::payload(line);
     let mut first = [0i16; LENGTH];
     let mut second = [0i16; LENGTH];
-    let agree = told(a, b);
-    let code_a = decode(t, a, kind, payload, &mut first);
-    let code_b = decode(t, b, kind, payload, &mut second);
+    let agree = told(rt, a, b);
+    let code_a = decode(rt, t, a, kind, payload, &mut first);
+    let code_b = decode(rt, t, b, kind, payload, &mut second);
     if code_a == 0 && code_b == 0 {
         counts[FRAMES] = one_more(counts[FRAMES]);
-        show::frame(counts[PAIRS], counts[FRAMES], kind, agree);
-        show::decoder(b"a", counts[CONCEALED_A], &first);
-        show::decoder(b"b", counts[CONCEALED_B], &second);
-        show::equal(&first, &second);
+        show::frame(rt, counts[PAIRS], counts[FRAMES], kind, agree);
+        show::decoder(rt, b"a", counts[CONCEALED_A], &first);
+        show::decoder(rt, b"b", counts[CONCEALED_B], &second);
+        show::equal(rt, &first, &second);
     }
     counts[CONCEALED_A] = concealed(counts[CONCEALED_A], kind, code_a);
     counts[CONCEALED_B] = concealed(counts[CONCEALED_B], kind, code_b);
 }
 
-fn common_line(
+fn common_line<R: Input + Print>(
+    rt: &R,
     t: &[i16; 1880],
     a: &mut [i16; 234],
     b: &mut [i16; 234],
@@ -186,39 +211,40 @@ fn common_line(
 ) -> bool {
     let mut text = [0u8; 45];
     let mut line = [0i16; 11];
-    if stream::read_words(&mut text, &mut line) {
-        common(t, a, b, &line, counts);
+    if stream::read_words(rt, &mut text, &mut line) {
+        common(rt, t, a, b, &line, counts);
         return true;
     }
     false
 }
 
 // The next line. False at the end.
-fn line(
+fn line<R: Input + Print>(
+    rt: &R,
     t: &mut [i16; 1880],
     a: &mut [i16; 234],
     b: &mut [i16; 234],
     counts: &mut [u32; 4],
 ) -> bool {
-    match stream::letter() {
-        b'T' => table_line(t),
-        b'P' => pair_line(t, a, b, counts),
-        b'A' => line_a(t, a, counts),
-        b'B' => line_b(t, b, counts),
-        b'C' => common_line(t, a, b, counts),
+    match stream::letter(rt) {
+        b'T' => table_line(rt, t),
+        b'P' => pair_line(rt, t, a, b, counts),
+        b'A' => line_a(rt, t, a, counts),
+        b'B' => line_b(rt, t, b, counts),
+        b'C' => common_line(rt, t, a, b, counts),
         _ => false,
     }
 }
 
 // All lines, up to 2^32 - 1.
-fn main() {
+fn main(rt: HostRuntime) {
     let mut counts = [0u32; 4];
     let mut t = [0i16; 1880];
     let mut a = [0i16; 234];
     let mut b = [0i16; 234];
     let mut most: u32 = 4294967295;
     while 0 < most {
-        let more = line(&mut t, &mut a, &mut b, &mut counts);
+        let more = line(&rt, &mut t, &mut a, &mut b, &mut counts);
         most = replay::rest(most, more);
     }
 }

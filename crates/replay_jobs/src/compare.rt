@@ -1,9 +1,12 @@
 // Files compared.
-use libc::STDOUT_FILENO;
+ghost use Rattle.std.specs.Prelude.{◌≤◌, length};
+
+use files::Input;
+use std::io::Print;
 use words::lesser;
 
 // How many bytes of two files were read, how many differ, the CRC-32 of the first, and whether there may be more.
-#[derive(Drop)]
+#[derive(Clone, Copy)]
 struct Compared {
     first: u64,
     second: u64,
@@ -12,18 +15,28 @@ struct Compared {
     more: bool,
 }
 
-fn say(text: &[u8]) {
-    io::write_all(STDOUT_FILENO, text);
+fn say(rt: &HostRuntime, text: &[u8]) {
+    let _ = rt.write_all(text);
 }
 
 // How many bytes there are, where there is a file.
-fn say_bytes(fd: i32, n: u64) {
-    if fd < 0 {
-        say(b"no file");
+fn say_bytes(rt: &HostRuntime, from: &Option<Input>, n: u64) {
+    if from.is_none() {
+        say(rt, b"no file");
         return;
     }
-    io::print_decimal(STDOUT_FILENO, n);
-    say(b" bytes");
+    let _ = rt.print(n);
+    say(rt, b" bytes");
+}
+
+// The next bytes of a file, as many as there is room for; none where there is no file.
+fn read(from: &Option<Input>, room: &mut [u8]) -> usize
+    ensures { result ≤ length room.new }
+{
+    match from {
+        Some(from) => files::read_full(from, room),
+        None => 0,
+    }
 }
 
 // How many bytes differ, as far as both go.
@@ -41,9 +54,15 @@ fn differing(a: &[u8], b: &[u8]) -> u64 {
 }
 
 // One chunk more of both files.
-fn compare_chunk(a: i32, b: i32, c: Compared, x: &mut [u8], y: &mut [u8]) -> Compared {
-    let n = io::read_full(a, x);
-    let m = io::read_full(b, y);
+fn compare_chunk(
+    a: &Option<Input>,
+    b: &Option<Input>,
+    c: Compared,
+    x: &mut [u8],
+    y: &mut [u8],
+) -> Compared {
+    let n = read(a, x);
+    let m = read(b, y);
     let differ = differing(&x[0..n], &y[0..m]);
     let sum = crc32::more(c.sum, &x[0..n]);
     Compared {
@@ -56,9 +75,9 @@ fn compare_chunk(a: i32, b: i32, c: Compared, x: &mut [u8], y: &mut [u8]) -> Com
 }
 
 // Two open files.
-fn compare(a: i32, b: i32) -> Compared {
-    let mut first = io::large_buffer();
-    let mut second = io::large_buffer();
+fn compare(a: &Option<Input>, b: &Option<Input>) -> Compared {
+    let mut first = [0u8; 65536];
+    let mut second = [0u8; 65536];
     let x: &mut [u8] = &mut first;
     let y: &mut [u8] = &mut second;
     let mut c = Compared {
@@ -76,18 +95,24 @@ fn compare(a: i32, b: i32) -> Compared {
     c
 }
 
-pub(crate) fn same(a: &[u8], b: &[u8]) {
-    let x = os::open_read(a);
-    let y = os::open_read(b);
-    let c = compare(x, y);
-    say_bytes(x, c.first);
-    say(b", ");
-    say_bytes(y, c.second);
-    say(b", differ ");
-    io::print_decimal(STDOUT_FILENO, c.differ);
-    say(b", CRC-32 ");
-    io::print_hex(STDOUT_FILENO, c.sum as u64, 8);
-    say(b"\n");
-    libc::close(x);
-    libc::close(y);
+fn open(rt: &HostRuntime, name: &[u8]) -> Option<Input> {
+    match files::open(rt, name) {
+        Ok(file) => Some(Input::Named(file)),
+        Err(_) => None,
+    }
+}
+
+pub(crate) fn same(rt: &HostRuntime, a: &[u8], b: &[u8]) {
+    let x = open(rt, a);
+    let y = open(rt, b);
+    let c = compare(&x, &y);
+    let sum = c.sum;
+    say_bytes(rt, &x, c.first);
+    say(rt, b", ");
+    say_bytes(rt, &y, c.second);
+    say(rt, b", differ ");
+    let _ = rt.print(c.differ);
+    say(rt, b", CRC-32 ");
+    let _ = print!(rt; "{sum:08x}");
+    say(rt, b"\n");
 }

@@ -1,25 +1,29 @@
 // Files copied, and damaged.
 ghost use Rattle.std.specs.Prelude.{◌<◌};
 
+use files::Input;
+use std::fs::{File, OpenOptions};
+use std::io;
+use std::os::unix::fs::FileExt;
 use words::lesser;
 
 // One chunk more, of which `left` bytes are wanted; how many are left then, 0 where there is no more.
-fn chunk(from: i32, to: i32, left: u32, space: &mut [u8]) -> u32
+fn chunk(from: &Input, to: &File, left: u32, space: &mut [u8]) -> u32
     requires { 0 < left }
     ensures { result < left }
 {
     let most = lesser(left as usize, space.len());
-    let n = io::read_full(from, &mut space[0..most]);
+    let n = files::read_full(from, &mut space[0..most]);
     if n == 0 {
         return 0;
     }
-    io::write_all(to, &space[0..n]);
+    let _ = files::write_all(to, &space[0..n]);
     left - n as u32
 }
 
 // At most `most` bytes of an open file to another.
-fn bytes(from: i32, to: i32, most: u32) {
-    let mut buffer = io::large_buffer();
+fn bytes(from: &Input, to: &File, most: u32) {
+    let mut buffer = [0u8; 65536];
     let space: &mut [u8] = &mut buffer;
     let mut left = most;
     while 0 < left {
@@ -28,35 +32,50 @@ fn bytes(from: i32, to: i32, most: u32) {
 }
 
 // The first bytes of a file to an open one.
-fn file(from: &[u8], to: i32, most: u32) {
-    let fd = os::open_read(from);
-    bytes(fd, to, most);
-    libc::close(fd);
+fn file(rt: &HostRuntime, from: &[u8], to: &File, most: u32) {
+    if let Ok(from) = files::open(rt, from) {
+        bytes(&Input::Named(from), to, most);
+    }
 }
 
-pub(crate) fn copy(from: &[u8], to: &[u8], most: u32) {
-    let fd = os::open_overwrite(to);
-    file(from, fd, most);
-    libc::close(fd);
+fn overwrite(rt: &HostRuntime, name: &[u8]) -> io::Result<File> {
+    File::create(rt, files::text(name)?)
+}
+
+pub(crate) fn copy(rt: &HostRuntime, from: &[u8], to: &[u8], most: u32) {
+    if let Ok(to) = overwrite(rt, to) {
+        file(rt, from, &to, most);
+    }
+}
+
+fn append(rt: &HostRuntime, name: &[u8]) -> io::Result<File> {
+    OpenOptions::new().append(true).open(rt, files::text(name)?)
 }
 
 // A file's bytes behind those of another, so many times.
-pub(crate) fn add(from: &[u8], to: &[u8], times: u32) {
-    let fd = os::open_append(to);
-    let mut left = times;
-    while 0 < left {
-        file(from, fd, job::parts::ALL);
-        left -= 1;
+pub(crate) fn add(rt: &HostRuntime, from: &[u8], to: &[u8], times: u32) {
+    if let Ok(to) = append(rt, to) {
+        let mut left = times;
+        while 0 < left {
+            file(rt, from, &to, job::parts::ALL);
+            left -= 1;
+        }
     }
-    libc::close(fd);
 }
 
-// Byte `at` of a file is raised by one.
-pub(crate) fn damage(name: &[u8], at: u32) {
-    let fd = os::open_update(name);
-    let mut byte = [0u8; 1];
-    libc::pread(fd, &mut byte, at as i64);
-    byte[0] = std::num::wrapping_add_u8(byte[0], 1);
-    libc::pwrite(fd, &byte, at as i64);
-    libc::close(fd);
+fn update(rt: &HostRuntime, name: &[u8]) -> io::Result<File> {
+    OpenOptions::new()
+        .read(true)
+        .write(true)
+        .open(rt, files::text(name)?)
+}
+
+// Byte `at` of a file is raised by one; 1 where there is none.
+pub(crate) fn damage(rt: &HostRuntime, name: &[u8], at: u32) {
+    if let Ok(file) = update(rt, name) {
+        let mut byte = [0u8; 1];
+        let _ = file.read_at(&mut byte, at as u64);
+        byte[0] = std::num::wrapping_add_u8(byte[0], 1);
+        let _ = file.write_at(&byte, at as u64);
+    }
 }

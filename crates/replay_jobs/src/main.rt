@@ -7,18 +7,23 @@
 //   same A B                              how many bytes both have, how many differ as far as both go, and the CRC-32 of A
 //   unlink FILE
 //   mkdir FOLDER
+#![tactic(auto)]
+
 ghost use Rattle.std.specs.Prelude.{◌<◌, ◌≤◌, length};
 
 mod compare;
 mod copies;
 mod word;
 
-use libc::{STDIN_FILENO, STDOUT_FILENO};
+use files::Input;
+use std::io::Print;
+use std::{fs, io};
 use word::{number, word};
 
 // A job, which prints its form.
-fn resume(line: &[u8]) {
+fn resume(rt: &HostRuntime, line: &[u8]) {
     job_files::resume(
+        rt,
         word(line, 1),
         word(line, 2),
         word(line, 3),
@@ -27,50 +32,54 @@ fn resume(line: &[u8]) {
     );
 }
 
+fn make_folder(rt: &HostRuntime, name: &[u8]) -> io::Result<()> {
+    fs::create_dir(rt, files::text(name)?)
+}
+
 // The step of a line.
-fn step(line: &[u8]) {
-    io::write_all(STDOUT_FILENO, line);
-    io::write_all(STDOUT_FILENO, b"\n");
+fn step(rt: &HostRuntime, line: &[u8]) {
+    let _ = rt.write_all(line);
+    let _ = rt.write_all(b"\n");
     if line.len() == 0 {
         return;
     }
     let a = word(line, 1);
     let b = word(line, 2);
     match line[0] {
-        b'r' => resume(line),
-        b'c' => copies::copy(a, b, number(line, 3)),
-        b'a' => copies::add(a, b, number(line, 3)),
-        b'd' => copies::damage(a, number(line, 2)),
-        b's' => compare::same(a, b),
+        b'r' => resume(rt, line),
+        b'c' => copies::copy(rt, a, b, number(line, 3)),
+        b'a' => copies::add(rt, a, b, number(line, 3)),
+        b'd' => copies::damage(rt, a, number(line, 2)),
+        b's' => compare::same(rt, a, b),
         b'u' => {
-            os::unlink(a);
+            let _ = files::remove(rt, a);
         }
         b'm' => {
-            os::mkdir(a);
+            let _ = make_folder(rt, a);
         }
         _ => {}
     }
 }
 
 // The line from a place on; the place behind it.
-fn line(text: &[u8], from: usize) -> usize
+fn line(rt: &HostRuntime, text: &[u8], from: usize) -> usize
     requires { from < length text.now }
     ensures { (from < result) × (result ≤ length text.now) }
 {
-    let to = bytes::scan::find(text, from, text.len(), 10);
-    step(&text[from..to]);
+    let to = octets::find(text, from, text.len(), 10);
+    step(rt, &text[from..to]);
     if to < text.len() { to + 1 } else { to }
 }
 
-fn steps(text: &[u8]) {
+fn steps(rt: &HostRuntime, text: &[u8]) {
     let mut at = 0;
     while at < text.len() {
-        at = line(text, at);
+        at = line(rt, text, at);
     }
 }
 
-fn main() {
-    let mut text = io::large_buffer();
-    let n = io::read_full(STDIN_FILENO, &mut text);
-    steps(&text[0..n]);
+fn main(rt: HostRuntime) {
+    let mut text = [0u8; 65536];
+    let n = files::read_full(&Input::Standard(rt.stdin()), &mut text);
+    steps(&rt, &text[0..n]);
 }

@@ -6,7 +6,7 @@ fn end(line: &[u8], from: usize) -> usize
     requires { from ≤ length line.now }
     ensures { (from ≤ result) × (result ≤ length line.now) }
 {
-    bytes::scan::find(line, from, line.len(), b' ')
+    octets::find(line, from, line.len(), b' ')
 }
 
 // The place behind the next blank from a place on; the end where there is none.

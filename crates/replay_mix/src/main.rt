@@ -2,6 +2,8 @@
 // which are held. M: a call: how many samples are lent to be mixed, and how many to hear; the code; the check sum of what is heard, two words, 0 beside a refusal; the numbers of
 // ten legs that are held, whose first samples are lent. oracle/mix writes it, from the wording, some rows wrong on purpose. Prints the number of each call whose answer differs, and
 // how many values were compared and differ.
+#![tactic(auto)]
+
 ghost use Rattle.std.specs.Prelude.{◌≤◌};
 
 mod rows;
@@ -85,7 +87,7 @@ fn differs(line: &[i16], code: u32, sum: u32, written: bool, tally: &mut [u32; 6
 }
 
 // One call.
-fn replay(held: &[i16; HELD], line: &[i16], tally: &mut [u32; 64]) {
+fn replay<R: Print>(rt: &R, held: &[i16; HELD], line: &[i16], tally: &mut [u32; 64]) {
     let samples = lent(held, line);
     let n = words::lesser(part::number(line, 0) as usize, MOST);
     let m = words::lesser(part::number(line, 1) as usize, MOST);
@@ -93,46 +95,50 @@ fn replay(held: &[i16; HELD], line: &[i16], tally: &mut [u32; 64]) {
     let code = mix::mix(&samples[0..n], &mut room[0..m]);
     let sum = check_sum(&room, m);
     if differs(line, code, sum, !kept(&room), tally) {
-        stream::print_one(b"seen as wrong: row ", tally::compared(tally, rows::CODE));
+        stream::print_one(
+            rt,
+            b"seen as wrong: row ",
+            tally::compared(tally, rows::CODE),
+        );
     }
 }
 
-fn leg_line(held: &mut [i16; HELD]) -> bool {
+fn leg_line<R: Input>(rt: &R, held: &mut [i16; HELD]) -> bool {
     let mut text = [0u8; 325];
     let mut line = [0i16; 81];
-    let whole = stream::read_words(&mut text, &mut line);
+    let whole = stream::read_words(rt, &mut text, &mut line);
     let at = FRAME * words::lesser(part::number(&line, 0) as usize, 63);
     block::put(held, at, &line[1..]);
     whole
 }
 
-fn call_line(held: &[i16; HELD], tally: &mut [u32; 64]) -> bool {
+fn call_line<R: Input + Print>(rt: &R, held: &[i16; HELD], tally: &mut [u32; 64]) -> bool {
     let mut text = [0u8; 61];
     let mut line = [0i16; 15];
-    let whole = stream::read_words(&mut text, &mut line);
+    let whole = stream::read_words(rt, &mut text, &mut line);
     if whole {
-        replay(held, &line, tally);
+        replay(rt, held, &line, tally);
     }
     whole
 }
 
 // The next line. False at the end.
-fn line(held: &mut [i16; HELD], tally: &mut [u32; 64]) -> bool {
-    match stream::letter() {
-        b'L' => leg_line(held),
-        b'M' => call_line(held, tally),
+fn line<R: Input + Print>(rt: &R, held: &mut [i16; HELD], tally: &mut [u32; 64]) -> bool {
+    match stream::letter(rt) {
+        b'L' => leg_line(rt, held),
+        b'M' => call_line(rt, held, tally),
         _ => false,
     }
 }
 
 // All lines, up to 2^32 - 1.
-fn main() {
+fn main(rt: HostRuntime) {
     let mut held = [0i16; HELD];
     let mut tally = [0u32; 64];
     let mut most: u32 = 4294967295;
     while 0 < most {
-        let more = line(&mut held, &mut tally);
+        let more = line(&rt, &mut held, &mut tally);
         most = replay::rest(most, more);
     }
-    rows::print_all(&tally);
+    rows::print_all(&rt, &tally);
 }

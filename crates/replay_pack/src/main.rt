@@ -2,12 +2,13 @@
 // digits: the call (0 with fifteen fields, 1 with fourteen), how many fields and how many bytes are lent, sixteen numbers, the byte that all lent memory
 // holds, the code that is due and the twelve bytes that are due then. oracle/pack writes it, some rows wrong on purpose. Prints how many values were
 // compared and differ; what is due of the first call is read back, too.
+#![tactic(auto)]
+
 ghost use Rattle.std.specs.Prelude.{◌≤◌};
 
 mod rows;
 
-use libc::STDIN_FILENO;
-use replay::{part, tally};
+use replay::{part, stream, tally};
 
 // The sixteen numbers of a line.
 fn numbers(line: &[i16]) -> [u16; 16] {
@@ -86,9 +87,9 @@ fn replay(line: &[i16], tally: &mut [u32; 64]) {
 }
 
 // The next line. False at the end.
-fn line(tally: &mut [u32; 64]) -> bool {
+fn line<R: Input>(rt: &R, tally: &mut [u32; 64]) -> bool {
     let mut text = [0u8; 134];
-    let n = io::read_full(STDIN_FILENO, &mut text);
+    let n = stream::read_full(rt, &mut text);
     if n != 134 {
         return false;
     }
@@ -99,12 +100,12 @@ fn line(tally: &mut [u32; 64]) -> bool {
 }
 
 // All lines, up to 2^32 - 1.
-fn main() {
+fn main(rt: HostRuntime) {
     let mut tally = [0u32; 64];
     let mut most: u32 = 4294967295;
     while 0 < most {
-        let more = line(&mut tally);
+        let more = line(&rt, &mut tally);
         most = replay::rest(most, more);
     }
-    rows::print_all(&tally);
+    rows::print_all(&rt, &tally);
 }

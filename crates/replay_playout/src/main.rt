@@ -2,6 +2,8 @@
 // half first. A: a place and eight arrivals, first their frame numbers, then their times, which are held from that place on. P: a call: frames, start and depth; how many numbers, times and
 // kinds are lent; the place of its first arrival, and how many places each next one is behind; the code; the lost count and the check sum of the kinds, 0 beside a refusal. oracle/playout
 // writes it, from the wording, some rows wrong on purpose. Prints the number of each call whose answer differs, and how many values were compared and differ.
+#![tactic(auto)]
+
 ghost use Rattle.std.specs.Prelude.{◌≤◌};
 
 mod rows;
@@ -134,7 +136,13 @@ fn length(line: &[i16], n: usize) -> usize
 }
 
 // One call.
-fn replay(numbers: &[u32; HELD], times: &[u32; HELD], line: &[i16], tally: &mut [u32; 64]) {
+fn replay<R: Print>(
+    rt: &R,
+    numbers: &[u32; HELD],
+    times: &[u32; HELD],
+    line: &[i16],
+    tally: &mut [u32; 64],
+) {
     let lent_numbers = lent(numbers, line);
     let lent_times = lent(times, line);
     let mut kinds = [BEFORE; ROOM];
@@ -151,47 +159,61 @@ fn replay(numbers: &[u32; HELD], times: &[u32; HELD], line: &[i16], tally: &mut 
     );
     let sum = check_sum(&kinds, k);
     if differs(line, answer(planned), sum, !kept(&kinds), tally) {
-        stream::print_one(b"seen as wrong: row ", tally::compared(tally, rows::CODE));
+        stream::print_one(
+            rt,
+            b"seen as wrong: row ",
+            tally::compared(tally, rows::CODE),
+        );
     }
 }
 
-fn arrivals_line(numbers: &mut [u32; HELD], times: &mut [u32; HELD]) -> bool {
+fn arrivals_line<R: Input>(rt: &R, numbers: &mut [u32; HELD], times: &mut [u32; HELD]) -> bool {
     let mut text = [0u8; 133];
     let mut line = [0i16; 33];
-    let whole = stream::read_words(&mut text, &mut line);
+    let whole = stream::read_words(rt, &mut text, &mut line);
     put_all(numbers, &line, 1);
     put_all(times, &line, 17);
     whole
 }
 
-fn call_line(numbers: &[u32; HELD], times: &[u32; HELD], tally: &mut [u32; 64]) -> bool {
+fn call_line<R: Input + Print>(
+    rt: &R,
+    numbers: &[u32; HELD],
+    times: &[u32; HELD],
+    tally: &mut [u32; 64],
+) -> bool {
     let mut text = [0u8; 61];
     let mut line = [0i16; 15];
-    let whole = stream::read_words(&mut text, &mut line);
+    let whole = stream::read_words(rt, &mut text, &mut line);
     if whole {
-        replay(numbers, times, &line, tally);
+        replay(rt, numbers, times, &line, tally);
     }
     whole
 }
 
 // The next line. False at the end.
-fn line(numbers: &mut [u32; HELD], times: &mut [u32; HELD], tally: &mut [u32; 64]) -> bool {
-    match stream::letter() {
-        b'A' => arrivals_line(numbers, times),
-        b'P' => call_line(numbers, times, tally),
+fn line<R: Input + Print>(
+    rt: &R,
+    numbers: &mut [u32; HELD],
+    times: &mut [u32; HELD],
+    tally: &mut [u32; 64],
+) -> bool {
+    match stream::letter(rt) {
+        b'A' => arrivals_line(rt, numbers, times),
+        b'P' => call_line(rt, numbers, times, tally),
         _ => false,
     }
 }
 
 // All lines, up to 2^32 - 1.
-fn main() {
+fn main(rt: HostRuntime) {
     let mut numbers = [0u32; HELD];
     let mut times = [0u32; HELD];
     let mut tally = [0u32; 64];
     let mut most: u32 = 4294967295;
     while 0 < most {
-        let more = line(&mut numbers, &mut times, &mut tally);
+        let more = line(&rt, &mut numbers, &mut times, &mut tally);
         most = replay::rest(most, more);
     }
-    rows::print_all(&tally);
+    rows::print_all(&rt, &tally);
 }

@@ -2,6 +2,8 @@
 // hexadecimal digits. B: 4,096 bytes, two a word, the first in its lower half, of which the payloads behind it are taken. P: place and length of a payload; its
 // code and the number of its frames; kind, place and length of the last; the check sum of all frames, two words; the code of an index that is too high, and
 // 0, which it has beside the code. oracle/rtp writes it, some rows wrong on purpose. Prints how many values were compared and differ.
+#![tactic(auto)]
+
 ghost use Rattle.std.specs.Prelude.{◌≤◌};
 
 mod rows;
@@ -126,18 +128,18 @@ fn replay(line: &[i16], payload: &[u8], tally: &mut [u32; 64]) {
     high(line, payload, tally);
 }
 
-fn bytes_line(bytes: &mut [u8; 4096]) -> bool {
+fn bytes_line<R: Input>(rt: &R, bytes: &mut [u8; 4096]) -> bool {
     let mut text = [0u8; 8193];
     let mut held = [0i16; 2048];
-    let whole = stream::read_words(&mut text, &mut held);
+    let whole = stream::read_words(rt, &mut text, &mut held);
     words::to_bytes(&held, bytes);
     whole
 }
 
-fn payload_line(bytes: &[u8], tally: &mut [u32; 64]) -> bool {
+fn payload_line<R: Input>(rt: &R, bytes: &[u8], tally: &mut [u32; 64]) -> bool {
     let mut text = [0u8; 45];
     let mut line = [0i16; 11];
-    if stream::read_words(&mut text, &mut line) {
+    if stream::read_words(rt, &mut text, &mut line) {
         let from = words::lesser(part::number(&line, 0) as usize, bytes.len());
         let to = from + words::lesser(part::number(&line, 1) as usize, bytes.len() - from);
         replay(&line, &bytes[from..to], tally);
@@ -147,22 +149,22 @@ fn payload_line(bytes: &[u8], tally: &mut [u32; 64]) -> bool {
 }
 
 // The next line. False at the end.
-fn line(bytes: &mut [u8; 4096], tally: &mut [u32; 64]) -> bool {
-    match stream::letter() {
-        b'B' => bytes_line(bytes),
-        b'P' => payload_line(bytes, tally),
+fn line<R: Input>(rt: &R, bytes: &mut [u8; 4096], tally: &mut [u32; 64]) -> bool {
+    match stream::letter(rt) {
+        b'B' => bytes_line(rt, bytes),
+        b'P' => payload_line(rt, bytes, tally),
         _ => false,
     }
 }
 
 // All lines, up to 2^32 - 1.
-fn main() {
+fn main(rt: HostRuntime) {
     let mut bytes = [0u8; 4096];
     let mut tally = [0u32; 64];
     let mut most: u32 = 4294967295;
     while 0 < most {
-        let more = line(&mut bytes, &mut tally);
+        let more = line(&rt, &mut bytes, &mut tally);
         most = replay::rest(most, more);
     }
-    rows::print_all(&tally);
+    rows::print_all(&rt, &tally);
 }

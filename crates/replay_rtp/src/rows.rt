@@ -20,13 +20,13 @@ pub const REFUSAL: usize = 6;
 
 pub const BESIDE: usize = 7;
 
-pub(crate) fn print_all(tally: &[u32; 64]) {
-    stream::print_one(b"payloads ", tally::compared(tally, PAYLOADS));
-    stream::print_row(b"rtp::frames, code", tally, CODE);
-    stream::print_row(b"rtp::frames, number", tally, NUMBER);
-    stream::print_row(b"rtp::find, code", tally, FRAME_CODE);
-    stream::print_row(b"rtp::find, last frame", tally, LAST);
-    stream::print_row(b"rtp::find and rtp::part, all frames", tally, ALL);
-    stream::print_row(b"index too high, code", tally, REFUSAL);
-    stream::print_row(b"index too high, frame and part", tally, BESIDE);
+pub(crate) fn print_all<R: Print>(rt: &R, tally: &[u32; 64]) {
+    stream::print_one(rt, b"payloads ", tally::compared(tally, PAYLOADS));
+    stream::print_row(rt, b"rtp::frames, code", tally, CODE);
+    stream::print_row(rt, b"rtp::frames, number", tally, NUMBER);
+    stream::print_row(rt, b"rtp::find, code", tally, FRAME_CODE);
+    stream::print_row(rt, b"rtp::find, last frame", tally, LAST);
+    stream::print_row(rt, b"rtp::find and rtp::part, all frames", tally, ALL);
+    stream::print_row(rt, b"index too high, code", tally, REFUSAL);
+    stream::print_row(rt, b"index too high, frame and part", tally, BESIDE);
 }

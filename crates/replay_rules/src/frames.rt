@@ -14,7 +14,7 @@ const CARRIED: usize = 61;
 const LENT: i16 = 21845;
 
 // What a call answered; 0 beside a refusal.
-#[derive(Drop)]
+#[derive(Clone, Copy)]
 struct Found {
     code: u32,
     delays: [i16; 4],

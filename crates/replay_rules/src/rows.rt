@@ -35,41 +35,43 @@ pub(crate) fn differing(tally: &[u32; 64]) -> u32 {
     let mut sum = 0u32;
     let mut row = 0;
     while row < ROWS {
-        sum = std::num::wrapping_add_u32(sum, tally::differ(tally, row));
+        sum = sum.wrapping_add(tally::differ(tally, row));
         row += 1;
     }
     sum
 }
 
 // The rows of a frame by one of the two calls.
-fn print_frame(name: &[u8], carried: &[u8], tally: &[u32; 64], row: usize)
+fn print_frame<R: Print>(rt: &R, name: &[u8], carried: &[u8], tally: &[u32; 64], row: usize)
     requires { row ≤ 20 }
 {
-    stream::print_row(name, tally, row);
-    stream::print_row(b"its delays", tally, row + 1);
-    stream::print_row(b"its rules", tally, row + 2);
-    stream::print_row(carried, tally, row + 3);
+    stream::print_row(rt, name, tally, row);
+    stream::print_row(rt, b"its delays", tally, row + 1);
+    stream::print_row(rt, b"its rules", tally, row + 2);
+    stream::print_row(rt, carried, tally, row + 3);
 }
 
-pub(crate) fn print_all(tally: &[u32; 64]) {
+pub(crate) fn print_all<R: Print>(rt: &R, tally: &[u32; 64]) {
     print_frame(
+        rt,
         b"decoder::frame, code",
         b"the delay that its state carries",
         tally,
         FRAME,
     );
     print_frame(
+        rt,
         b"frame_delays::frame_delays, code",
         b"the delay that it carries",
         tally,
         SCAN,
     );
-    stream::print_row(b"rule::frame_rules", tally, FRAME_RULES);
-    stream::print_row(b"refused frames, nothing written", tally, KEPT);
-    stream::print_row(b"counters of the frames", tally, COUNTERS);
-    stream::print_row(b"count::count, code", tally, COUNT_CODE);
-    stream::print_row(b"its counters", tally, COUNTED);
-    stream::print_row(b"rule::known", tally, KNOWN);
-    stream::print_row(b"rule::of_number", tally, OF_NUMBER);
-    stream::print_row(b"rows", tally, ROWS);
+    stream::print_row(rt, b"rule::frame_rules", tally, FRAME_RULES);
+    stream::print_row(rt, b"refused frames, nothing written", tally, KEPT);
+    stream::print_row(rt, b"counters of the frames", tally, COUNTERS);
+    stream::print_row(rt, b"count::count, code", tally, COUNT_CODE);
+    stream::print_row(rt, b"its counters", tally, COUNTED);
+    stream::print_row(rt, b"rule::known", tally, KNOWN);
+    stream::print_row(rt, b"rule::of_number", tally, OF_NUMBER);
+    stream::print_row(rt, b"rows", tally, ROWS);
 }

@@ -1,6 +1,8 @@
 // Replays the Rust's answers for each stage of a frame. Standard input has lines of fixed sizes, a letter and words of four
 // hexadecimal digits: T the tables, S a state, F a frame with all its values and the state after it (oracle/README.md has the layout).
 // Each stage is run on the Rust's own values of the stages before it. Prints for each stage how many values were compared and differ.
+#![tactic(auto)]
+
 ghost use Rattle.std.specs.Prelude.{◌<◌};
 
 mod block;
@@ -65,21 +67,26 @@ fn frame(t: &[i16], s: &[i16], f: &[i16], tally: &mut [u32; 64]) {
     signal::frame(t, s, f, tally);
 }
 
-fn table_line(t: &mut [i16; 1880], tally: &mut [u32; 64]) -> bool {
+fn table_line<R: Input>(rt: &R, t: &mut [i16; 1880], tally: &mut [u32; 64]) -> bool {
     let mut text = [0u8; 7521];
     tally::count(tally, rows::CASES, false);
-    stream::read_words(&mut text, t)
+    stream::read_words(rt, &mut text, t)
 }
 
-fn state_line(s: &mut [i16; 234]) -> bool {
+fn state_line<R: Input>(rt: &R, s: &mut [i16; 234]) -> bool {
     let mut text = [0u8; 937];
-    stream::read_words(&mut text, s)
+    stream::read_words(rt, &mut text, s)
 }
 
-fn frame_line(t: &[i16; 1880], s: &mut [i16; 234], tally: &mut [u32; 64]) -> bool {
+fn frame_line<R: Input>(
+    rt: &R,
+    t: &[i16; 1880],
+    s: &mut [i16; 234],
+    tally: &mut [u32; 64],
+) -> bool {
     let mut text = [0u8; 2957];
     let mut f = [0i16; 739];
-    if stream::read_words(&mut text, &mut f) {
+    if stream::read_words(rt, &mut text, &mut f) {
         frame(t, s, &f, tally);
         part::fill(&f, 505, s);
         return true;
@@ -88,29 +95,29 @@ fn frame_line(t: &[i16; 1880], s: &mut [i16; 234], tally: &mut [u32; 64]) -> boo
 }
 
 // The next line. False at the end.
-fn line(t: &mut [i16; 1880], s: &mut [i16; 234], tally: &mut [u32; 64]) -> bool {
-    let kind = stream::letter();
+fn line<R: Input>(rt: &R, t: &mut [i16; 1880], s: &mut [i16; 234], tally: &mut [u32; 64]) -> bool {
+    let kind = stream::letter(rt);
     if kind == b'T' {
-        return table_line(t, tally);
+        return table_line(rt, t, tally);
     }
     if kind == b'S' {
-        return state_line(s);
+        return state_line(rt, s);
     }
     if kind == b'F' {
-        return frame_line(t, s, tally);
+        return frame_line(rt, t, s, tally);
     }
     false
 }
 
 // All lines, up to 2^32 - 1.
-fn main() {
+fn main(rt: HostRuntime) {
     let mut tally = [0u32; 64];
     let mut t = [0i16; 1880];
     let mut s = [0i16; 234];
     let mut most: u32 = 4294967295;
     while 0 < most {
-        let more = line(&mut t, &mut s, &mut tally);
+        let more = line(&rt, &mut t, &mut s, &mut tally);
         most = replay::rest(most, more);
     }
-    rows::print(&tally);
+    rows::print(&rt, &tally);
 }

@@ -47,40 +47,41 @@ pub const RECONSTRUCT: usize = 21;
 
 pub const CARRIED: usize = 22;
 
-fn print_parameters(tally: &[u32; 64]) {
-    stream::print_row(b"bitstream::unpack", tally, UNPACK);
-    stream::print_row(b"pitch::parity_ok", tally, PARITY);
-    stream::print_row(b"pitch::PitchState", tally, DELAY);
-    stream::print_row(b"lsp::new_row", tally, NEW_ROW);
-    stream::print_row(b"lsp::erased_row", tally, ERASED_ROW);
-    stream::print_row(b"lsp::decode_lsf", tally, DECODE_LSF);
-    stream::print_row(b"lsp::remember_output", tally, REMEMBER);
-    stream::print_row(b"lsp::lsf_to_lsp", tally, LSP);
-    stream::print_row(b"lsp::interpolate", tally, INTERPOLATE);
-    stream::print_row(b"lpc::lsp_to_lp", tally, LP);
+fn print_parameters<R: Print>(rt: &R, tally: &[u32; 64]) {
+    stream::print_row(rt, b"bitstream::unpack", tally, UNPACK);
+    stream::print_row(rt, b"pitch::parity_ok", tally, PARITY);
+    stream::print_row(rt, b"pitch::PitchState", tally, DELAY);
+    stream::print_row(rt, b"lsp::new_row", tally, NEW_ROW);
+    stream::print_row(rt, b"lsp::erased_row", tally, ERASED_ROW);
+    stream::print_row(rt, b"lsp::decode_lsf", tally, DECODE_LSF);
+    stream::print_row(rt, b"lsp::remember_output", tally, REMEMBER);
+    stream::print_row(rt, b"lsp::lsf_to_lsp", tally, LSP);
+    stream::print_row(rt, b"lsp::interpolate", tally, INTERPOLATE);
+    stream::print_row(rt, b"lpc::lsp_to_lp", tally, LP);
 }
 
-fn print_code_and_signal(tally: &[u32; 64]) {
-    stream::print_row(b"fixed::random_index", tally, RANDOM);
-    stream::print_row(b"fixed::codevector", tally, CODEVECTOR);
-    stream::print_row(b"fixed::sharpen", tally, SHARPEN);
-    stream::print_row(b"gain::decode", tally, DECODE_GAIN);
-    stream::print_row(b"gain::conceal", tally, CONCEAL_GAIN);
-    stream::print_row(b"gain::sharpening", tally, SHARPENING);
-    stream::print_row(b"adaptive::adaptive_vector", tally, VECTOR);
-    stream::print_row(b"synth::excitation", tally, EXCITATION);
-    stream::print_row(b"synth::synthesize", tally, SYNTHESIZE);
-    stream::print_row(b"synth::reconstruct", tally, RECONSTRUCT);
-    stream::print_row(b"carried", tally, CARRIED);
+fn print_code_and_signal<R: Print>(rt: &R, tally: &[u32; 64]) {
+    stream::print_row(rt, b"fixed::random_index", tally, RANDOM);
+    stream::print_row(rt, b"fixed::codevector", tally, CODEVECTOR);
+    stream::print_row(rt, b"fixed::sharpen", tally, SHARPEN);
+    stream::print_row(rt, b"gain::decode", tally, DECODE_GAIN);
+    stream::print_row(rt, b"gain::conceal", tally, CONCEAL_GAIN);
+    stream::print_row(rt, b"gain::sharpening", tally, SHARPENING);
+    stream::print_row(rt, b"adaptive::adaptive_vector", tally, VECTOR);
+    stream::print_row(rt, b"synth::excitation", tally, EXCITATION);
+    stream::print_row(rt, b"synth::synthesize", tally, SYNTHESIZE);
+    stream::print_row(rt, b"synth::reconstruct", tally, RECONSTRUCT);
+    stream::print_row(rt, b"carried", tally, CARRIED);
 }
 
-pub(crate) fn print(tally: &[u32; 64]) {
+pub(crate) fn print<R: Print>(rt: &R, tally: &[u32; 64]) {
     stream::print_two(
+        rt,
         b"cases ",
         tally::compared(tally, CASES),
         b" frames ",
         tally::compared(tally, FRAMES),
     );
-    print_parameters(tally);
-    print_code_and_signal(tally);
+    print_parameters(rt, tally);
+    print_code_and_signal(rt, tally);
 }

@@ -1,13 +1,14 @@
 // The program `resume [--tables FILE] CALL STATE OUT [FRAMES]`: goes on with the job whose state is in STATE, or begins one. Here are its arguments; the job is in crate
 // job_files.
+#![tactic(auto)]
+
 use job::parts::{ALL, Frames};
-use libc::STDERR_FILENO;
 use options::Asked;
 
 const USAGE: [u8; 54] = *b"usage: resume [--tables FILE] CALL STATE OUT [FRAMES]\n";
 
 // The fourth argument: at most so many frames. Where there is none, more than a call can have, so that the end is always reached.
-fn frames(a: Asked) -> Frames {
+fn frames(rt: &HostRuntime, a: Asked) -> Frames {
     if a.fourth == 0 {
         return Frames {
             good: true,
@@ -15,29 +16,37 @@ fn frames(a: Asked) -> Frames {
         };
     }
     let mut text = [0u8; 64];
-    let n = os::arg(a.fourth, &mut text);
+    let n = files::arg(rt, a.fourth, &mut text).unwrap_or(0);
     job::parts::wanted(&text[0..n])
 }
 
-fn run(a: Asked, most: u32) {
-    let mut tables = io::buffer();
-    let mut call = io::buffer();
-    let mut state = io::buffer();
-    let mut out = io::buffer();
-    let t = files::argument(a.tables, b"tables.g729", &mut tables);
-    let c = files::argument(a.first, b"", &mut call);
-    let s = files::argument(a.second, b"", &mut state);
-    let o = files::argument(a.third, b"", &mut out);
-    job_files::resume(&tables[0..t], &call[0..c], &state[0..s], &out[0..o], most);
+fn run(rt: &HostRuntime, a: Asked, most: u32) {
+    let mut tables = [0u8; 4096];
+    let mut call = [0u8; 4096];
+    let mut state = [0u8; 4096];
+    let mut out = [0u8; 4096];
+    let t = files::argument(rt, a.tables, b"tables.g729", &mut tables);
+    let c = files::argument(rt, a.first, b"", &mut call);
+    let s = files::argument(rt, a.second, b"", &mut state);
+    let o = files::argument(rt, a.third, b"", &mut out);
+    job_files::resume(
+        rt,
+        &tables[0..t],
+        &call[0..c],
+        &state[0..s],
+        &out[0..o],
+        most,
+    );
 }
 
-fn main() {
-    if !files::standard_open() {
+fn main(rt: HostRuntime) {
+    if !files::standard_open(&rt) {
         return;
     }
     let usage = USAGE;
-    let a = files::asked(3, 4);
+    let a = files::asked(&rt, 3, 4);
     let answered = files::answered(
+        &rt,
         a,
         b"resume",
         &usage,
@@ -46,11 +55,11 @@ fn main() {
     if answered {
         return;
     }
-    let asked = frames(a);
+    let asked = frames(&rt, a);
     if !asked.good {
-        files::say(b"resume", b"FRAMES is no decimal number");
-        io::write_all(STDERR_FILENO, &usage);
+        files::say(&rt, b"resume", b"FRAMES is no decimal number");
+        files::tell(&rt, &usage);
         return;
     }
-    run(a, asked.most);
+    run(&rt, a, asked.most);
 }

@@ -1,8 +1,10 @@
 // A file that is read through a lent buffer: all its bytes, or the samples of a WAV file. No contract can say what is read; they say that what is at hand is inside of the buffer.
+#![tactic(auto)]
+
 ghost use Rattle.std.specs.Prelude.{◌≡◌, ◌-◌, ◌≤◌, length};
 ghost use Rattle.source.specs.Source.{Inside, raw, used, cut};
 
-use libc::STDERR_FILENO;
+use files::Input;
 use wav::Found;
 
 // The bytes of a buffer, in which the header of a WAV file must be.
@@ -14,7 +16,7 @@ const ALL: u64 = 18446744073709551615;
 const LONGEST: u64 = 4294967296;
 
 // The place of the first byte in the buffer that is not used and the one behind the last, whether the file has ended, whether it could be read, and how many bytes of it may still be read.
-#[derive(Drop)]
+#[derive(Clone, Copy)]
 pub struct Source {
     pub from: usize,
     pub to: usize,
@@ -31,6 +33,7 @@ pub fn unread() -> Source
 }
 
 // A file of which n bytes are at hand.
+#[tactic(auto, unfolding(crate::specs::Source::raw))]
 pub fn raw(n: usize) -> Source
     ensures { (result ≡ raw n) × Inside result n }
 {
@@ -43,13 +46,26 @@ pub fn raw(n: usize) -> Source
     }
 }
 
-// Whether a read was good; where it failed, a message on standard error.
-fn good_read(answer: isize, name: &[u8]) -> bool {
-    if answer < 0 {
-        os::fail(name);
-        return false;
+// What a read gave: how many bytes; not good, with a message on standard error, where it failed.
+#[derive(Clone, Copy)]
+struct Got {
+    bytes: usize,
+    good: bool,
+}
+
+fn read(rt: &HostRuntime, from: &Input, name: &[u8], room: &mut [u8]) -> Got
+    ensures { result.bytes ≤ length room.new }
+{
+    match files::read(from, room) {
+        Ok(bytes) => Got { bytes, good: true },
+        Err(e) => {
+            files::fail(rt, name, e);
+            Got {
+                bytes: 0,
+                good: false,
+            }
+        }
     }
-    true
 }
 
 // The end of what may be read behind the bytes held.
@@ -73,24 +89,23 @@ fn less(left: u64, bytes: usize) -> u64 {
 }
 
 // One read: the bytes that are not used move to the front, and others come behind them.
-pub fn fill(fd: i32, name: &[u8], s: Source, input: &mut [u8]) -> Source
+pub fn fill(rt: &HostRuntime, from: &Input, name: &[u8], s: Source, input: &mut [u8]) -> Source
     ensures { Inside result (length input.old) }
 {
     let held = call::keep(input, s.from, s.to);
     let end = limit(held, input.len(), s.left);
-    let answer = libc::read(fd, &mut input[held..end]);
-    let good = good_read(answer, name);
-    let bytes = io::count(answer, &input[held..end]);
+    let got = read(rt, from, name, &mut input[held..end]);
     Source {
         from: 0,
-        to: held + bytes,
-        ended: bytes == 0,
-        good,
-        left: less(s.left, bytes),
+        to: held + got.bytes,
+        ended: got.bytes == 0,
+        good: got.good,
+        left: less(s.left, got.bytes),
     }
 }
 
 // The same file, with more bytes used.
+#[tactic(auto, unfolding(crate::specs::Source::used))]
 pub fn used(s: Source, bytes: usize) -> Source
     requires { (s.from ≤ s.to) × (bytes ≤ s.to - s.from) }
     ensures { (result ≡ used s bytes) × Inside result s.to }
@@ -105,6 +120,7 @@ pub fn used(s: Source, bytes: usize) -> Source
 }
 
 // Whether a file that has ended is shorter than it says: of one whose length isn't known nearly all that a file could have is left.
+#[tactic(auto, unfolding(crate::specs::Source::cut))]
 pub fn cut(s: Source) -> bool
     ensures { result ≡ cut s }
 {
@@ -141,40 +157,57 @@ fn samples(h: Found, n: usize) -> Source
 }
 
 // Why the samples of a WAV file can't be taken, in words; `wanted` says which can.
-fn why(name: &[u8], code: u32, wanted: &[u8]) {
+fn why(rt: &HostRuntime, name: &[u8], code: u32, wanted: &[u8]) {
     if code == wav::NO_WAVE {
-        files::say(name, b"begins with RIFF, but is no WAV file");
+        files::say(rt, name, b"begins with RIFF, but is no WAV file");
     } else if code == wav::NO_DATA {
         files::say(
+            rt,
             name,
             b"no chunk `data` in the first 65,536 bytes of this WAV file, or behind more than 64 others",
         );
     } else if code == wav::NO_FORMAT {
-        files::say(name, b"no chunk `fmt ` before the samples of this WAV file");
+        files::say(
+            rt,
+            name,
+            b"no chunk `fmt ` before the samples of this WAV file",
+        );
     } else if code == wav::NOT_MONO {
         files::say(
+            rt,
             name,
             b"a WAV file of more than one channel: give one channel alone",
         );
     } else if code == wav::NOT_8000 {
-        files::say(name, b"a WAV file whose rate is not 8,000 samples a second");
+        files::say(
+            rt,
+            name,
+            b"a WAV file whose rate is not 8,000 samples a second",
+        );
     } else {
-        io::write_all(STDERR_FILENO, name);
-        io::write_all(STDERR_FILENO, b": a WAV file whose samples are not ");
-        io::write_all(STDERR_FILENO, wanted);
-        io::write_all(STDERR_FILENO, b"\n");
+        files::tell(rt, name);
+        files::tell(rt, b": a WAV file whose samples are not ");
+        files::tell(rt, wanted);
+        files::tell(rt, b"\n");
     }
 }
 
 // The samples at hand of a WAV file that begins with these bytes, if they have this format tag and so many bits each. Not good, with the reason on standard error, where it is of another kind.
-pub fn wave(name: &[u8], bytes: &[u8], tag: u32, bits: u32, wanted: &[u8]) -> Source
+pub fn wave(
+    rt: &HostRuntime,
+    name: &[u8],
+    bytes: &[u8],
+    tag: u32,
+    bits: u32,
+    wanted: &[u8],
+) -> Source
     ensures { Inside result (length bytes.now) }
 {
     let found = wav::look(bytes, tag, bits);
     if found.code == 0 {
         return samples(found, bytes.len());
     }
-    why(name, found.code, wanted);
+    why(rt, name, found.code, wanted);
     Source {
         from: 0,
         to: 0,

@@ -1,0 +1,54 @@
+-- `depth_options::name` meets its contract: each way out rewrites with the tests that led there.
+use mathlib.Core.Path.{sym, ◌∙◌}
+use Rattle.depth_options.specs.DepthOptions.{name}
+use Rattle.depth_options.proofs.name.Goals as goal
+
+pub returns-then-same : goal.returns-then-same
+unfolding name
+returns-then-same c = rw (sym c.same.ensures ∙ c.if-same.true)
+
+pub returns-then-same-2 : goal.returns-then-same-2
+unfolding name
+returns-then-same-2 c =
+    rw (sym c.same.ensures ∙ c.if-same.false, sym c.same-2.ensures ∙ c.if-same-2.true)
+
+pub returns-then-same-3 : goal.returns-then-same-3
+unfolding name
+returns-then-same-3 c =
+    rw (
+      sym c.same.ensures ∙ c.if-same.false,
+      sym c.same-2.ensures ∙ c.if-same-2.false,
+      sym c.same-3.ensures ∙ c.if-same-3.true,
+    )
+
+pub returns-then-same-4 : goal.returns-then-same-4
+unfolding name
+returns-then-same-4 c =
+    rw (
+      sym c.same.ensures ∙ c.if-same.false,
+      sym c.same-2.ensures ∙ c.if-same-2.false,
+      sym c.same-3.ensures ∙ c.if-same-3.false,
+      sym c.same-4.ensures ∙ c.if-same-4.true,
+    )
+
+pub returns-then-same-5 : goal.returns-then-same-5
+unfolding name
+returns-then-same-5 c =
+    rw (
+      sym c.same.ensures ∙ c.if-same.false,
+      sym c.same-2.ensures ∙ c.if-same-2.false,
+      sym c.same-3.ensures ∙ c.if-same-3.false,
+      sym c.same-4.ensures ∙ c.if-same-4.false,
+      sym c.same-5.ensures ∙ c.if-same-5.true,
+    )
+
+pub returns : goal.returns
+unfolding name
+returns c =
+    rw (
+      sym c.same.ensures ∙ c.if-same.false,
+      sym c.same-2.ensures ∙ c.if-same-2.false,
+      sym c.same-3.ensures ∙ c.if-same-3.false,
+      sym c.same-4.ensures ∙ c.if-same-4.false,
+      sym c.same-5.ensures ∙ c.if-same-5.false,
+    )

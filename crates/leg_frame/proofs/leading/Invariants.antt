@@ -1,0 +1,16 @@
+-- `leg_frame::leading` meets its contract: before turn i the first i bytes are digits.
+use mathlib.Core.Path.{◌≡◌, sym, ◌∙◌}
+use Prim.Native.Nat.{◌+◌, ◌-◌, ◌≤◌}
+use native.Mathlib.Nat.{zero-add}
+use native.Mathlib.Omega.{arith}
+use lib.ListN.{length, drop}
+use borrow.Author.Tests.{not-true, not-false}
+use Rattle.leg_frame.specs.LegFrame.{leading}
+use Rattle.leg_frame.specs.Laws.{leading_stops, leading_goes, leading_ends}
+use Rattle.leg_frame.proofs.leading.Given as goal
+
+abbrev pub invariant-loop-i : goal.invariant-loop-i
+invariant-loop-i l = (l.i ≤ length l.text) × (leading l.text ≡ l.i + leading (drop l.i l.text))
+
+abbrev pub decreases-loop-i : goal.decreases-loop-i
+decreases-loop-i l = length l.text - l.i

@@ -1,0 +1,12 @@
+-- `replay::tally::compared` meets its contract: the test picks the case of the definition.
+use borrow.Author.Tests.{lt-ltb, le-ltb}
+use Rattle.replay.specs.Replay.{compared}
+use Rattle.replay.proofs.tally.compared.Goals as goal
+
+pub returns-then-row-lt32 : goal.returns-then-row-lt32
+unfolding compared
+returns-then-row-lt32 c = rw (lt-ltb _ _ c.if-row-lt32.true)
+
+pub returns : goal.returns
+unfolding compared
+returns c = rw (le-ltb _ _ c.if-row-lt32.false)
