@@ -8,8 +8,11 @@ use Rattle.delay_step.proofs.delay_step.Goals as goal
 pub returns-in-Refused : goal.returns-in-Refused
 returns-in-Refused c =
     let s = c.args in
-    record { out_after = rw (not_line (kept s.carried.now s.from) s.text.now c.in-Refused.is c.line-answer.ensures)
-          (stop_given s.carried.now s.from _ s.out.now c.stopped.ensures.0 c.stopped.ensures.1); written_bound = omega (arith, c.stopped.ensures.1) }
+    record {
+      out_after = rw (not_line (kept s.carried.now s.from) s.text.now c.in-Refused.is c.line-answer.ensures)
+          (stop_given s.carried.now s.from _ s.out.now c.stopped.ensures.0 c.stopped.ensures.1);
+      written_bound = omega (arith, c.stopped.ensures.1);
+    }
 
 pub slice_bounds-frame_step-end : goal.slice_bounds-frame_step-end
 slice_bounds-frame_step-end c =

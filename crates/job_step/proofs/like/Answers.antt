@@ -1,10 +1,7 @@
 -- The answers of `job_step::like`.
-use mathlib.Core.Path.{◌≡◌, refl, sym, ◌∙◌}
-use Prim.Native.Nat.{◌-◌, ◌≤◌}
+use mathlib.Core.Path.{refl, sym, ◌∙◌}
+use Prim.Native.Nat.{◌-◌}
 use native.Mathlib.Omega.{arith}
-use lib.ListN.{drop}
-use borrow.Author.Tests.{not-true, not-false}
-use Rattle.job_step.specs.Step.{like}
 use Rattle.job_step.specs.Laws.{like_not, like_more, like_end}
 use Rattle.std.proofs.Common.{rules}
 use Rattle.job_step.proofs.like.Goals as goal

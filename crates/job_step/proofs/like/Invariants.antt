@@ -1,11 +1,8 @@
 -- `job_step::like` meets its contract: the bytes passed fit.
-use mathlib.Core.Path.{◌≡◌, refl, sym, ◌∙◌}
+use mathlib.Core.Path.{◌≡◌}
 use Prim.Native.Nat.{◌-◌, ◌≤◌}
-use native.Mathlib.Omega.{arith}
 use lib.ListN.{drop}
-use borrow.Author.Tests.{not-true, not-false}
 use Rattle.job_step.specs.Step.{like}
-use Rattle.job_step.specs.Laws.{like_not, like_more, like_end}
 use Rattle.job_step.proofs.like.Given as goal
 
 abbrev pub invariant-loop-i : goal.invariant-loop-i
