@@ -6,6 +6,7 @@
 ghost use Rattle.std.specs.Prelude.{◌≡◌, ◌&&◌, ◌+◌, ◌≤◌, ◌<◌, eqb, ltb, length, take};
 ghost use Rattle.read_step.specs.Reading.{input_room};
 
+use files::Input;
 use print::FORM_ROOM;
 use read_step::{INPUT, OUTPUT, Reading};
 
@@ -15,38 +16,35 @@ const USAGE: [u8; 37] = *b"usage: decode [--tables FILE] [CALL]\n";
 const MOST: u32 = 4294967295;
 
 // What a read gave: how many bytes, 0 at the end; and whether it was good.
-#[derive(Drop)]
+#[derive(Clone, Copy)]
 struct Got {
     bytes: usize,
     good: bool,
 }
 
 // Where the program is: where the call stands, whether it goes on, and whether it could be read and standard output written.
-#[derive(Drop)]
+#[derive(Clone, Copy)]
 struct Place {
     call: Reading,
     more: bool,
     good: bool,
 }
 
-// Whether a read was good; where it failed, a message on standard error.
-fn good_read(answer: isize, name: &[u8]) -> bool {
-    if answer < 0 {
-        os::fail(name);
-        return false;
-    }
-    true
-}
-
-// Reads behind the bytes held, which stay as they are.
-fn read(fd: i32, name: &[u8], held: usize, input: &mut [u8]) -> Got
+// Reads behind the bytes held, which stay as they are. Where that fails, a message on standard error.
+fn read(rt: &HostRuntime, from: &Input, name: &[u8], held: usize, input: &mut [u8]) -> Got
     requires { held ≤ length input.old }
     ensures { (take held input.new ≡ take held input.old) × (held + result.bytes ≤ length input.old) }
 {
-    let answer = libc::read(fd, &mut input[held..]);
-    let good = good_read(answer, name);
-    let bytes = io::count(answer, &input[held..]);
-    Got { bytes, good }
+    match files::read(from, &mut input[held..]) {
+        Ok(bytes) => Got { bytes, good: true },
+        Err(e) => {
+            files::fail(rt, name, e);
+            Got {
+                bytes: 0,
+                good: false,
+            }
+        }
+    }
 }
 
 // Whether a further read follows: while the reads give bytes, however few, and no line is refused.
@@ -65,10 +63,11 @@ fn both(read: bool, written: bool) -> bool
 
 // One read of the call, and what its lines print. None follows the end, a refusal or a failure.
 fn turn(
+    rt: &HostRuntime,
     t: &[i16; 1880],
     b: &mut [i16; 234],
     from: Reading,
-    fd: i32,
+    source: &Input,
     name: &[u8],
     input: &mut [u8; INPUT],
     out: &mut [u8; OUTPUT],
@@ -76,11 +75,11 @@ fn turn(
     requires { from.held ≤ input_room }
     ensures { result.call.held ≤ input_room }
 {
-    let got = read(fd, name, from.held, input);
+    let got = read(rt, source, name, from.held, input);
     let call = read_step::read_step(t, b, from, got.bytes, input, out);
     let text: &[u8] = out;
     let written = call.written;
-    let good = both(got.good, files::write(&text[0..written]));
+    let good = both(got.good, files::write(rt, &text[0..written]));
     Place {
         call,
         more: goes_on(good, got.bytes, call.job.code),
@@ -97,15 +96,15 @@ fn rest(most: u32, more: bool) -> u32
 }
 
 // The last form of a call.
-fn end(call: Reading, input: &[u8; INPUT]) {
+fn end(rt: &HostRuntime, call: Reading, input: &[u8; INPUT]) {
     let mut form = [0u8; FORM_ROOM];
     let n = read_step::finish(call, input, &mut form);
-    files::print(&form, n);
+    files::print(rt, &form, n);
 }
 
 // A whole call. Each read but the last gives at least one byte, of which Count and the longest line limit the number, so there are fewer than MOST. There is no last form
 // where the call could not be read, or standard output not written.
-fn decode(t: &[i16; 1880], b: &mut [i16; 234], fd: i32, name: &[u8]) {
+fn decode(rt: &HostRuntime, t: &[i16; 1880], b: &mut [i16; 234], source: &Input, name: &[u8]) {
     let mut input = [0u8; INPUT];
     let mut out = [0u8; OUTPUT];
     let call = read_step::start();
@@ -117,41 +116,43 @@ fn decode(t: &[i16; 1880], b: &mut [i16; 234], fd: i32, name: &[u8]) {
     let mut most: u32 = MOST;
     while 0 < most {
         let from = p.call;
-        p = turn(t, b, from, fd, name, &mut input, &mut out);
+        p = turn(rt, t, b, from, source, name, &mut input, &mut out);
         most = rest(most, p.more);
     }
     if p.good {
         let last = p.call;
-        end(last, &input);
+        end(rt, last, &input);
     }
 }
 
 // The tables are checked before the call is opened.
-fn run(tables: &[u8], given: bool, name: &[u8]) {
+fn run(rt: &HostRuntime, tables: &[u8], given: bool, name: &[u8]) {
     let mut t = [0i16; 1880];
     let mut b = [0i16; 234];
-    let checked = files::tables(tables, &mut t, &mut b);
+    let checked = files::tables(rt, tables, &mut t, &mut b);
     if checked.code != 0 {
         let mut form = [0u8; FORM_ROOM];
         let n = print::refused(checked.code, 0, &mut form);
-        files::print(&form, n);
+        files::print(rt, &form, n);
         return;
     }
-    let fd = files::input(
+    let from = files::input(
+        rt,
         given,
         name,
         b"decode",
         b"reading a call from the terminal; end it with Ctrl-D (decode --help tells more)",
     );
-    if 0 <= fd {
-        decode(&t, &mut b, fd, name);
+    if let Some(from) = from {
+        decode(rt, &t, &mut b, &from, name);
     }
 }
 
-fn main() {
-    let a = files::asked(0, 1);
+fn main(rt: HostRuntime) {
+    let a = files::asked(&rt, 0, 1);
     let usage = USAGE;
     let done = files::answered(
+        &rt,
         a,
         b"decode",
         &usage,
@@ -160,9 +161,9 @@ fn main() {
     if done {
         return;
     }
-    let mut tables = io::buffer();
-    let mut name = io::buffer();
-    let n = files::argument(a.tables, b"tables.g729", &mut tables);
-    let m = files::argument(a.first, b"standard input", &mut name);
-    run(&tables[0..n], a.first != 0, &name[0..m]);
+    let mut tables = [0u8; 4096];
+    let mut name = [0u8; 4096];
+    let n = files::argument(&rt, a.tables, b"tables.g729", &mut tables);
+    let m = files::argument(&rt, a.first, b"standard input", &mut name);
+    run(&rt, &tables[0..n], a.first != 0, &name[0..m]);
 }

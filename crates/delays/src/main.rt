@@ -12,29 +12,31 @@ fn initial(t: &[i16; 1880]) -> i16 {
 }
 
 // The tables are checked before the call is opened.
-fn run(tables: &[u8], given: bool, name: &[u8]) {
+fn run(rt: &HostRuntime, tables: &[u8], given: bool, name: &[u8]) {
     let mut t = [0i16; 1880];
     let mut b = [0i16; 234];
-    let checked = files::tables(tables, &mut t, &mut b);
+    let checked = files::tables(rt, tables, &mut t, &mut b);
     if checked.code != 0 {
-        delays_files::refuse(checked.code);
+        delays_files::refuse(rt, checked.code);
         return;
     }
-    let fd = files::input(
+    let from = files::input(
+        rt,
         given,
         name,
         b"delays",
         b"reading a call from the terminal; end it with Ctrl-D (delays --help tells more)",
     );
-    if 0 <= fd {
-        delays_files::delays(fd, name, initial(&t));
+    if let Some(from) = from {
+        delays_files::delays(rt, &from, name, initial(&t));
     }
 }
 
-fn main() {
-    let a = files::asked(0, 1);
+fn main(rt: HostRuntime) {
+    let a = files::asked(&rt, 0, 1);
     let usage = USAGE;
     let done = files::answered(
+        &rt,
         a,
         b"delays",
         &usage,
@@ -43,9 +45,9 @@ fn main() {
     if done {
         return;
     }
-    let mut tables = io::buffer();
-    let mut name = io::buffer();
-    let n = files::argument(a.tables, b"tables.g729", &mut tables);
-    let m = files::argument(a.first, b"standard input", &mut name);
-    run(&tables[0..n], a.first != 0, &name[0..m]);
+    let mut tables = [0u8; 4096];
+    let mut name = [0u8; 4096];
+    let n = files::argument(&rt, a.tables, b"tables.g729", &mut tables);
+    let m = files::argument(&rt, a.first, b"standard input", &mut name);
+    run(&rt, &tables[0..n], a.first != 0, &name[0..m]);
 }

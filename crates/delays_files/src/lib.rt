@@ -7,6 +7,7 @@ ghost use Rattle.source.specs.Source.{Inside};
 ghost use Rattle.delays_files.specs.Held.{Held};
 
 use delay_line::ROOM;
+use files::Input;
 use line::LONGEST;
 use line_step::Progress;
 use source::Source;
@@ -31,7 +32,7 @@ const CUT: u32 = 3;
 const FAILED: u32 = 4;
 
 // Where a call is: its bytes at hand, how far it is, the delay that is carried on, the bytes of rows that are not written yet, and what follows.
-#[derive(Drop)]
+#[derive(Clone, Copy)]
 struct Place {
     source: Source,
     job: Progress,
@@ -41,7 +42,7 @@ struct Place {
 }
 
 // What a line leads to: how far the call is, the delay that is carried on, and the bytes of rows with its own among them.
-#[derive(Drop)]
+#[derive(Clone, Copy)]
 struct Printed {
     job: Progress,
     carried: i16,
@@ -49,14 +50,14 @@ struct Printed {
 }
 
 // The rows at hand are written.
-fn spill(p: Place, out: &[u8]) -> Place
+fn spill(rt: &HostRuntime, p: Place, out: &[u8]) -> Place
     requires { p.rows ≤ length out.now }
     ensures { (result.source ≡ p.source) × (result.rows ≡ 0) }
 {
     let source = p.source;
     let job = p.job;
     let n = p.rows;
-    let good = files::write(&out[0..n]);
+    let good = files::write(rt, &out[0..n]);
     Place {
         source,
         job,
@@ -78,7 +79,7 @@ fn following(left: usize, ended: bool) -> u32 {
 }
 
 // No whole line is at hand: a read, or the end.
-fn lacking(fd: i32, name: &[u8], p: Place, input: &mut [u8]) -> Place
+fn lacking(rt: &HostRuntime, from: &Input, name: &[u8], p: Place, input: &mut [u8]) -> Place
     requires { Inside p.source (length input.old) }
     ensures { Inside result.source (length input.old) × (result.rows ≡ p.rows) }
 {
@@ -95,7 +96,7 @@ fn lacking(fd: i32, name: &[u8], p: Place, input: &mut [u8]) -> Place
             next,
         };
     }
-    let source = source::fill(fd, name, s, input);
+    let source = source::fill(rt, from, name, s, input);
     Place {
         source,
         job: before,
@@ -153,35 +154,50 @@ fn take(p: Place, end: usize, input: &[u8], out: &mut [u8]) -> Place
 }
 
 // No whole line is at hand: the rows are written before a read.
-fn pause(fd: i32, name: &[u8], p: Place, input: &mut [u8], out: &[u8]) -> Place
+fn pause(
+    rt: &HostRuntime,
+    from: &Input,
+    name: &[u8],
+    p: Place,
+    input: &mut [u8],
+    out: &[u8],
+) -> Place
     requires { Held p (length input.old) (length out.now) }
     ensures { Held result (length input.old) (length out.now) }
 {
     if p.rows == 0 {
-        return lacking(fd, name, p, input);
+        return lacking(rt, from, name, p, input);
     }
-    spill(p, out)
+    spill(rt, p, out)
 }
 
 // The next line; the rows are written where no further one has room.
-fn turn(fd: i32, name: &[u8], p: Place, input: &mut [u8], out: &mut [u8]) -> Place
+fn turn(
+    rt: &HostRuntime,
+    from: &Input,
+    name: &[u8],
+    p: Place,
+    input: &mut [u8],
+    out: &mut [u8],
+) -> Place
     requires { Held p (length input.old) (length out.old) }
     ensures { Held result (length input.old) (length out.old) }
 {
     let s = p.source;
-    let end = bytes::scan::find(input, s.from, s.to, 10);
+    let end = octets::find(input, s.from, s.to, 10);
     if end == s.to {
-        return pause(fd, name, p, input, out);
+        return pause(rt, from, name, p, input, out);
     }
     if out.len() - p.rows < ROOM {
-        return spill(p, out);
+        return spill(rt, p, out);
     }
     take(p, end, input, out)
 }
 
 // `turn` on the whole buffers.
 fn next(
-    fd: i32,
+    rt: &HostRuntime,
+    from: &Input,
     name: &[u8],
     p: Place,
     input: &mut [u8; source::ROOM],
@@ -190,7 +206,7 @@ fn next(
     requires { Held p 65536 65536 }
     ensures { Held result 65536 65536 }
 {
-    turn(fd, name, p, input, out)
+    turn(rt, from, name, p, input, out)
 }
 
 // How many turns may follow.
@@ -202,7 +218,7 @@ fn rest(most: u64, more: bool) -> u64
 }
 
 // All lines of a call, whose first frame gets this delay. The rows of the last turns are not written yet.
-fn lines(fd: i32, name: &[u8], carried: i16, out: &mut [u8; OUTPUT]) -> Place
+fn lines(rt: &HostRuntime, from: &Input, name: &[u8], carried: i16, out: &mut [u8; OUTPUT]) -> Place
     ensures { result.rows ≤ 65536 }
 {
     let mut input = [0u8; source::ROOM];
@@ -216,40 +232,47 @@ fn lines(fd: i32, name: &[u8], carried: i16, out: &mut [u8; OUTPUT]) -> Place
     };
     let mut most: u64 = TURNS;
     while 0 < most {
-        let from = p;
-        p = next(fd, name, from, &mut input, out);
+        let before = p;
+        p = next(rt, from, name, before, &mut input, out);
         most = rest(most, p.next == GO);
     }
     p
 }
 
 // The first n bytes of a line on standard output. False, with a message, where it can't be written.
-fn write(line: &[u8; ROOM], n: usize) -> bool
+fn write(rt: &HostRuntime, line: &[u8; ROOM], n: usize) -> bool
     requires { n ≤ 256 }
 {
     let view: &[u8] = line;
-    files::write(&view[0..n])
+    files::write(rt, &view[0..n])
 }
 
 // The line of a refusal.
-fn print_refused(code: u32, line: u32) {
+fn print_refused(rt: &HostRuntime, code: u32, line: u32) {
     let mut out = [0u8; ROOM];
     let n = delay_line::refused(code, line, &mut out);
-    write(&out, n);
+    write(rt, &out, n);
 }
 
 // Why a line is refused, in words.
-fn why(line: u32, code: u32, cut: bool) {
+fn why(rt: &HostRuntime, line: u32, code: u32, cut: bool) {
     if cut {
         files::say_line(
+            rt,
             b"delays",
             line,
             b"refused (9): the last line has no line feed; it may be cut",
         );
     } else if code == 10 {
-        files::say_line(b"delays", line, b"refused (10): more than 360,000 frames");
+        files::say_line(
+            rt,
+            b"delays",
+            line,
+            b"refused (10): more than 360,000 frames",
+        );
     } else {
         files::say_line(
+            rt,
             b"delays",
             line,
             b"refused (9): not a line of a call, as (frame (voice H)), (frame (sid H)), (frame (quiet)) or (frame (lost))",
@@ -258,24 +281,24 @@ fn why(line: u32, code: u32, cut: bool) {
 }
 
 // The end of a table: how many delays each rule has, and the share of carried ones; or its refusal.
-fn print_end(job: Progress, cut: bool) {
+fn print_end(rt: &HostRuntime, job: Progress, cut: bool) {
     if job.code != 0 {
         let line = line_step::one_more(job.lines);
-        print_refused(job.code, line);
-        why(line, job.code, cut);
+        print_refused(rt, job.code, line);
+        why(rt, line, job.code, cut);
         return;
     }
     let counts = job.counts;
     let mut out = [0u8; ROOM];
     let n = delay_line::by_rule(counts, &mut out);
-    if write(&out, n) {
+    if write(rt, &out, n) {
         let m = delay_line::share(counts, &mut out);
-        write(&out, m);
+        write(rt, &out, m);
     }
 }
 
 // The rows that are not written yet, and the end. Nothing where the call could not be read, or a row not written.
-fn finish(p: Place, out: &[u8; OUTPUT])
+fn finish(rt: &HostRuntime, p: Place, out: &[u8; OUTPUT])
     requires { p.rows ≤ 65536 }
 {
     if p.next == FAILED {
@@ -283,25 +306,25 @@ fn finish(p: Place, out: &[u8; OUTPUT])
     }
     let cut = p.next == CUT;
     let view: &[u8] = out;
-    let last = spill(p, view);
+    let last = spill(rt, p, view);
     if last.next != FAILED {
         let job = last.job;
-        print_end(job, cut);
+        print_end(rt, job, cut);
     }
 }
 
 // The table of a call that is open, whose first frame gets this delay.
-pub fn delays(fd: i32, name: &[u8], carried: i16) {
+pub fn delays(rt: &HostRuntime, from: &Input, name: &[u8], carried: i16) {
     let mut line = [0u8; ROOM];
     let n = delay_line::heading(&mut line);
-    if write(&line, n) {
+    if write(rt, &line, n) {
         let mut out = [0u8; OUTPUT];
-        let p = lines(fd, name, carried, &mut out);
-        finish(p, &out);
+        let p = lines(rt, from, name, carried, &mut out);
+        finish(rt, p, &out);
     }
 }
 
 // Where the tables are refused, before a line is read.
-pub fn refuse(code: u32) {
-    print_refused(code, 0);
+pub fn refuse(rt: &HostRuntime, code: u32) {
+    print_refused(rt, code, 0);
 }

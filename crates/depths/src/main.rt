@@ -2,14 +2,13 @@
 #![tactic(auto)]
 
 use depth_options::Wanted;
-use libc::STDERR_FILENO;
 use options::Asked;
 
 const USAGE: [u8; 89] =
     *b"usage: depths [--frames N] [--start MS] [--to MS] [--step MS] [--lost N | P%] [ARRIVALS]\n";
 
 // What the words ask for: those that all programs take, and those of this one.
-#[derive(Drop)]
+#[derive(Clone, Copy)]
 struct Both {
     asked: Asked,
     wanted: Wanted,
@@ -37,52 +36,50 @@ fn next(b: Both, i: usize, word: &[u8]) -> Both {
     Both { asked, wanted: w }
 }
 
-// Argument i.
-fn argument(b: Both, i: usize) -> Both {
-    let mut word = io::buffer();
-    let n = os::arg(i, &mut word);
-    next(b, i, &word[0..n])
-}
-
 // All arguments. A word that is too long for the buffer reads as empty, which is refused.
-fn arguments() -> Both {
-    let n = os::arg_count();
+fn arguments(rt: &HostRuntime) -> Both {
     let asked = options::none();
     let wanted = depth_options::none();
     let mut b = Both { asked, wanted };
-    let mut i = 1;
-    while i < n {
-        let before = b;
-        b = argument(before, i);
-        i += 1;
+    for i in 1..usize::MAX {
+        let mut word = [0u8; 4096];
+        match files::arg(rt, i, &mut word) {
+            Some(n) => b = next(b, i, &word[0..n]),
+            None => break,
+        }
     }
     b
 }
 
 // What an option takes, in words.
-fn why(option: u32) {
+fn why(rt: &HostRuntime, option: u32) {
     if option == depth_options::FRAMES {
         files::say(
+            rt,
             b"depths",
             b"--frames takes a number of frames, at most 360,000",
         );
     } else if option == depth_options::START {
         files::say(
+            rt,
             b"depths",
             b"--start takes a time in milliseconds, at most 4294967295",
         );
     } else if option == depth_options::TO {
         files::say(
+            rt,
             b"depths",
             b"--to takes a depth in milliseconds, at most 4294967295",
         );
     } else if option == depth_options::STEP {
         files::say(
+            rt,
             b"depths",
             b"--step takes a depth in milliseconds, at least 1 and at most 4294967295",
         );
     } else {
         files::say(
+            rt,
             b"depths",
             b"--lost takes a number of frames, or a whole percentage, at most 100, with % behind it; for 0.5 % give the number of frames",
         );
@@ -90,7 +87,7 @@ fn why(option: u32) {
 }
 
 // An option without a value that it takes: why, and the usage. False, and nothing done, where there is none.
-fn misused(b: Both, usage: &[u8]) -> bool {
+fn misused(rt: &HostRuntime, b: Both, usage: &[u8]) -> bool {
     let a = b.asked;
     let w = b.wanted;
     let awaited = if a.what == options::RUN { w.awaits } else { 0 };
@@ -98,34 +95,36 @@ fn misused(b: Both, usage: &[u8]) -> bool {
     if option == 0 {
         return false;
     }
-    why(option);
-    io::write_all(STDERR_FILENO, usage);
+    why(rt, option);
+    files::tell(rt, usage);
     true
 }
 
 // The table of the arrivals in a file, or on standard input.
-fn run(a: Asked, w: Wanted) {
-    let mut name = io::buffer();
-    let n = files::argument(a.first, b"standard input", &mut name);
-    let fd = files::input(
+fn run(rt: &HostRuntime, a: Asked, w: Wanted) {
+    let mut name = [0u8; 4096];
+    let n = files::argument(rt, a.first, b"standard input", &mut name);
+    let from = files::input(
+        rt,
         a.first != 0,
         &name[0..n],
         b"depths",
         b"reading arrivals from the terminal; end them with Ctrl-D (depths --help tells more)",
     );
-    if 0 <= fd {
-        depths_files::depths(w, fd, &name[0..n]);
+    if let Some(from) = from {
+        depths_files::depths(rt, w, &from, &name[0..n]);
     }
 }
 
-fn main() {
-    let b = arguments();
+fn main(rt: HostRuntime) {
+    let b = arguments(&rt);
     let a = b.asked;
     let usage = USAGE;
-    if misused(b, &usage) || files::no_tables(a, b"depths", &usage) {
+    if misused(&rt, b, &usage) || files::no_tables(&rt, a, b"depths", &usage) {
         return;
     }
     let done = files::answered(
+        &rt,
         a,
         b"depths",
         &usage,
@@ -133,6 +132,6 @@ fn main() {
     );
     if !done {
         let w = b.wanted;
-        run(a, w);
+        run(&rt, a, w);
     }
 }

@@ -8,6 +8,7 @@ mod reading;
 mod rows;
 
 use depth_options::Wanted;
+use files::Input;
 
 // The most frames, and the most arrivals: an hour of frames.
 pub const MOST: usize = 360000;
@@ -24,9 +25,10 @@ pub(crate) fn rest(most: u64, more: bool) -> u64
 }
 
 // Says that nothing arrived: a filter that lets no packet through must not pass for a call without losses.
-fn unheard(arrivals: usize) {
+fn unheard(rt: &HostRuntime, arrivals: usize) {
     if arrivals == 0 {
         files::say(
+            rt,
             b"depths",
             b"no arrivals: if these are from a capture, see whether its filter lets any packet through",
         );
@@ -35,9 +37,10 @@ fn unheard(arrivals: usize) {
 
 // Prints the table of an open text. Where a line is refused its form is printed alone: 9 for a line that is none, 20 for more frames or arrivals than an hour has, 21 for an arrival of no frame; in
 // the order of the lines. The reason is on standard error, as it is where the text can't be read.
-pub fn depths(w: Wanted, fd: i32, name: &[u8]) {
+pub fn depths(rt: &HostRuntime, w: Wanted, from: &Input, name: &[u8]) {
     if MOST < w.frames as usize {
         files::refuse(
+            rt,
             20,
             b"depths",
             b"refused (20): more than 360,000 frames are asked for",
@@ -46,9 +49,9 @@ pub fn depths(w: Wanted, fd: i32, name: &[u8]) {
     }
     let mut numbers = [0u32; MOST];
     let mut times = [0u32; MOST];
-    let text = reading::read(w, fd, name, &mut numbers, &mut times);
+    let text = reading::read(rt, w, from, name, &mut numbers, &mut times);
     if text.good {
-        unheard(text.arrivals);
-        rows::print(w, text.arrivals, &numbers, &times);
+        unheard(rt, text.arrivals);
+        rows::print(rt, w, text.arrivals, &numbers, &times);
     }
 }

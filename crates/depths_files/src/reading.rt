@@ -5,6 +5,7 @@ ghost use Rattle.depths_files.specs.Held.{Held};
 use crate::{MOST, TURNS, rest};
 use arrival_line::{Arrival, Line};
 use depth_options::Wanted;
+use files::Input;
 use print::FORM_ROOM;
 use source::{ROOM, Source};
 
@@ -30,14 +31,14 @@ const HIGH: u32 = 7;
 const NO_FRAME: u32 = 8;
 
 // A text: how many arrivals it has. Not good where it was refused or could not be read, and that was said.
-#[derive(Drop)]
+#[derive(Clone, Copy)]
 pub(crate) struct Text {
     pub arrivals: usize,
     pub good: bool,
 }
 
 // Where a text is: its bytes at hand, the lines that were begun, the arrivals that were taken, and what follows.
-#[derive(Drop)]
+#[derive(Clone, Copy)]
 struct Place {
     source: Source,
     lines: u32,
@@ -94,7 +95,7 @@ fn last(held: usize, ended: bool) -> u32 {
 }
 
 // No whole line is at hand: a read, or the end.
-fn lacking(fd: i32, name: &[u8], p: Place, input: &mut [u8]) -> Place
+fn lacking(rt: &HostRuntime, from: &Input, name: &[u8], p: Place, input: &mut [u8]) -> Place
     requires { Held p (length input.old) }
     ensures { Held result (length input.old) }
 {
@@ -108,7 +109,7 @@ fn lacking(fd: i32, name: &[u8], p: Place, input: &mut [u8]) -> Place
             next: last(left, s.ended),
         };
     }
-    let s = source::fill(fd, name, s, input);
+    let s = source::fill(rt, from, name, s, input);
     Place {
         source: s,
         lines: p.lines,
@@ -144,8 +145,9 @@ fn take(
 
 // The next line, or a read where there is no whole one.
 fn turn(
+    rt: &HostRuntime,
     w: Wanted,
-    fd: i32,
+    from: &Input,
     name: &[u8],
     p: Place,
     input: &mut [u8],
@@ -156,17 +158,18 @@ fn turn(
     ensures { Held result (length input.old) }
 {
     let s = p.source;
-    let end = bytes::scan::find(input, s.from, s.to, 10);
+    let end = octets::find(input, s.from, s.to, 10);
     if end == s.to {
-        return lacking(fd, name, p, input);
+        return lacking(rt, from, name, p, input);
     }
     take(w, p, end, input, numbers, times)
 }
 
 // `turn` on the whole lists.
 fn next(
+    rt: &HostRuntime,
     w: Wanted,
-    fd: i32,
+    from: &Input,
     name: &[u8],
     p: Place,
     input: &mut [u8; ROOM],
@@ -176,13 +179,14 @@ fn next(
     requires { Held p 65536 }
     ensures { Held result 65536 }
 {
-    turn(w, fd, name, p, input, numbers, times)
+    turn(rt, w, from, name, p, input, numbers, times)
 }
 
 // All lines of a text.
 fn lines(
+    rt: &HostRuntime,
     w: Wanted,
-    fd: i32,
+    from: &Input,
     name: &[u8],
     numbers: &mut [u32; MOST],
     times: &mut [u32; MOST],
@@ -198,37 +202,46 @@ fn lines(
     };
     let mut most: u64 = TURNS;
     while 0 < most {
-        let from = p;
-        p = next(w, fd, name, from, &mut input, numbers, times);
+        let before = p;
+        p = next(rt, w, from, name, before, &mut input, numbers, times);
         most = rest(most, p.next == GO);
     }
     p
 }
 
 // Why a line is refused, in words.
-fn why(line: u32, reason: u32) {
+fn why(rt: &HostRuntime, line: u32, reason: u32) {
     if reason == MANY {
-        files::say_line(b"depths", line, b"refused (20): more than 360,000 arrivals");
+        files::say_line(
+            rt,
+            b"depths",
+            line,
+            b"refused (20): more than 360,000 arrivals",
+        );
     } else if reason == HIGH {
         files::say_line(
+            rt,
             b"depths",
             line,
             b"refused (20): a frame number above 359,999, the last of an hour's frames",
         );
     } else if reason == NO_FRAME {
         files::say_line(
+            rt,
             b"depths",
             line,
             b"refused (21): a frame number that is not below --frames",
         );
     } else if reason == NO_FEED {
         files::say_line(
+            rt,
             b"depths",
             line,
             b"refused (9): the last line has no line feed; it may be cut",
         );
     } else {
         files::say_line(
+            rt,
             b"depths",
             line,
             b"refused (9): not a frame number, a space, tab or comma, and a time in milliseconds, both decimal and at most 4294967295",
@@ -245,26 +258,27 @@ fn code(reason: u32) -> u32 {
 }
 
 // A text that is refused: its form on standard output, and why on standard error.
-fn refuse(line: u32, reason: u32) {
+fn refuse(rt: &HostRuntime, line: u32, reason: u32) {
     let mut form = [0u8; FORM_ROOM];
     let n = print::refused(code(reason), line, &mut form);
-    files::print(&form, n);
-    why(line, reason);
+    files::print(rt, &form, n);
+    why(rt, line, reason);
 }
 
 // Reads a text into the lists.
 pub(crate) fn read(
+    rt: &HostRuntime,
     w: Wanted,
-    fd: i32,
+    from: &Input,
     name: &[u8],
     numbers: &mut [u32; MOST],
     times: &mut [u32; MOST],
 ) -> Text
     ensures { result.arrivals ≤ 360000 }
 {
-    let p = lines(w, fd, name, numbers, times);
+    let p = lines(rt, w, from, name, numbers, times);
     if (p.next != DONE) & (p.next != FAILED) {
-        refuse(p.lines, p.next);
+        refuse(rt, p.lines, p.next);
     }
     Text {
         arrivals: p.arrivals,

@@ -10,7 +10,7 @@ use depth_table::ROOM;
 use playout::Found;
 
 // A depth, and whether it is one of the table.
-#[derive(Drop)]
+#[derive(Clone, Copy)]
 struct Next {
     depth: u32,
     more: bool,
@@ -24,6 +24,7 @@ fn narrow(n: usize) -> u32
 }
 
 // How many frames there are: as asked, else one more than the greatest number, which reading has kept below 360,000.
+#[tactic(auto, unfolding(crate::specs::Rows::frames))]
 fn frames(w: Wanted, numbers: &[u32]) -> usize
     ensures { (result ≡ frames w numbers.now) × (result ≤ 360000) }
 {
@@ -34,6 +35,7 @@ fn frames(w: Wanted, numbers: &[u32]) -> usize
 }
 
 // When frame 0 is played at depth 0: as asked, else so that depth 0 is just enough for the fastest frame.
+#[tactic(auto, unfolding(crate::specs::Rows::start))]
 fn start(w: Wanted, numbers: &[u32], times: &[u32]) -> u32
     ensures { result ≡ start w numbers.now times.now }
 {
@@ -44,6 +46,7 @@ fn start(w: Wanted, numbers: &[u32], times: &[u32]) -> u32
 }
 
 // The row of a depth at the front of `out`; its length.
+#[tactic(auto, using(crate::specs::Laws::lost_fits), unfolding(crate::specs::Rows::row_at))]
 fn put_row(
     start: u32,
     depth: u32,
@@ -81,36 +84,50 @@ fn put_last(
 }
 
 // Prints the first n bytes of a line. False, with a message, where it can't be written.
-fn write(line: &[u8; ROOM], n: usize) -> bool
+fn write(rt: &HostRuntime, line: &[u8; ROOM], n: usize) -> bool
     requires { n ≤ 80 }
 {
     let view: &[u8] = line;
-    files::write(&view[0..n])
+    files::write(rt, &view[0..n])
 }
 
 // Prints the heading of so many frames and arrivals.
-fn print_heading(frames: usize, arrivals: usize, start: u32) -> bool {
+fn print_heading(rt: &HostRuntime, frames: usize, arrivals: usize, start: u32) -> bool {
     let mut out = [0u8; ROOM];
     let n = depth_table::heading(narrow(frames), narrow(arrivals), start, &mut out);
-    write(&out, n)
+    write(rt, &out, n)
 }
 
 // Prints the row of a depth.
-fn print_row(start: u32, depth: u32, numbers: &[u32], times: &[u32], kinds: &mut [u32]) -> bool
+fn print_row(
+    rt: &HostRuntime,
+    start: u32,
+    depth: u32,
+    numbers: &[u32],
+    times: &[u32],
+    kinds: &mut [u32],
+) -> bool
     requires { length kinds.old ≤ 360000 }
 {
     let mut out = [0u8; ROOM];
     let n = put_row(start, depth, numbers, times, kinds, &mut out);
-    write(&out, n)
+    write(rt, &out, n)
 }
 
 // Prints the last line.
-fn print_last(start: u32, most: u32, numbers: &[u32], times: &[u32], kinds: &mut [u32])
+fn print_last(
+    rt: &HostRuntime,
+    start: u32,
+    most: u32,
+    numbers: &[u32],
+    times: &[u32],
+    kinds: &mut [u32],
+)
     requires { length kinds.old ≤ 360000 }
 {
     let mut out = [0u8; ROOM];
     let n = put_last(start, most, numbers, times, kinds, &mut out);
-    write(&out, n);
+    write(rt, &out, n);
 }
 
 // The depth a step further, where the table has it. A step of 0 leads to none.
@@ -129,6 +146,7 @@ fn following(depth: u32, to: u32, step: u32) -> Next {
 
 // Prints all rows. False where one can't be written.
 fn print_rows(
+    rt: &HostRuntime,
     start: u32,
     to: u32,
     step: u32,
@@ -142,7 +160,7 @@ fn print_rows(
     let mut depth = 0;
     let mut most: u64 = TURNS;
     while 0 < most {
-        good = print_row(start, depth, numbers, times, kinds);
+        good = print_row(rt, start, depth, numbers, times, kinds);
         let next = following(depth, to, step);
         depth = next.depth;
         most = rest(most, next.more & good);
@@ -151,33 +169,39 @@ fn print_rows(
 }
 
 // Prints the table, with a kind for each frame lent.
-fn print_table(w: Wanted, numbers: &[u32], times: &[u32], kinds: &mut [u32])
+fn print_table(rt: &HostRuntime, w: Wanted, numbers: &[u32], times: &[u32], kinds: &mut [u32])
     requires { length kinds.old ≤ 360000 }
 {
     let at = start(w, numbers, times);
     let most = narrow(depth_options::most(w, kinds.len() as u32));
-    if !print_heading(kinds.len(), numbers.len(), at) {
+    if !print_heading(rt, kinds.len(), numbers.len(), at) {
         return;
     }
-    if print_rows(at, w.to, w.step, numbers, times, kinds) {
-        print_last(at, most, numbers, times, kinds);
+    if print_rows(rt, at, w.to, w.step, numbers, times, kinds) {
+        print_last(rt, at, most, numbers, times, kinds);
     }
 }
 
 // The table of so many arrivals, with the kinds that its frames have.
-fn print_part(w: Wanted, numbers: &[u32], times: &[u32], kinds: &mut [u32])
+fn print_part(rt: &HostRuntime, w: Wanted, numbers: &[u32], times: &[u32], kinds: &mut [u32])
     requires { length kinds.old ≡ 360000 }
 {
     let n = frames(w, numbers);
-    print_table(w, numbers, times, &mut kinds[0..n]);
+    print_table(rt, w, numbers, times, &mut kinds[0..n]);
 }
 
 // Prints the table of the first n arrivals of the lists.
-pub(crate) fn print(w: Wanted, n: usize, numbers: &[u32; MOST], times: &[u32; MOST])
+pub(crate) fn print(
+    rt: &HostRuntime,
+    w: Wanted,
+    n: usize,
+    numbers: &[u32; MOST],
+    times: &[u32; MOST],
+)
     requires { n ≤ 360000 }
 {
     let mut kinds = [0u32; MOST];
     let all: &[u32] = numbers;
     let when: &[u32] = times;
-    print_part(w, &all[0..n], &when[0..n], &mut kinds);
+    print_part(rt, w, &all[0..n], &when[0..n], &mut kinds);
 }

@@ -4,6 +4,7 @@
 
 ghost use Rattle.std.specs.Prelude.{◌≤◌, ◌<◌, length};
 
+use files::Input;
 use payload_line::{LONGEST, ROOM};
 use print::FORM_ROOM;
 
@@ -16,7 +17,7 @@ const INPUT: usize = LONGEST + 1;
 const MOST: u64 = 18446744073709551615;
 
 // Where the program is: the first byte of the input that is not used yet and the one behind the last, the lines that were taken, and whether it goes on.
-#[derive(Drop)]
+#[derive(Clone, Copy)]
 struct Place {
     from: usize,
     to: usize,
@@ -37,22 +38,23 @@ fn ended(lines: u32) -> Place
 }
 
 // What is left is no line: its refusal, and the end.
-fn refused(lines: u32, what: &[u8]) -> Place
+fn refused(rt: &HostRuntime, lines: u32, what: &[u8]) -> Place
     ensures { (result.from ≤ result.to) × (result.to ≤ 131071) }
 {
     let number = line_step::one_more(lines);
     let mut form = [0u8; FORM_ROOM];
     let n = print::refused(9, number, &mut form);
-    files::print(&form, n);
-    files::say_line(b"payloads", number, what);
+    files::print(rt, &form, n);
+    files::say_line(rt, b"payloads", number, what);
     ended(number)
 }
 
 // One line, without its line feed. False where standard output could not be written.
-fn take(text: &[u8], number: u32, out: &mut [u8; ROOM]) -> bool {
+fn take(rt: &HostRuntime, text: &[u8], number: u32, out: &mut [u8; ROOM]) -> bool {
     let printed = payload_line::payload_line(text, number, out);
     if printed.code == 9 {
         files::say_line(
+            rt,
             b"payloads",
             number,
             b"refused (9): neither the hexadecimal digits, 0-9 and a-f, of whole bytes nor a line of a call",
@@ -60,6 +62,7 @@ fn take(text: &[u8], number: u32, out: &mut [u8; ROOM]) -> bool {
     }
     if printed.code == 12 {
         files::say_line(
+            rt,
             b"payloads",
             number,
             b"refused (12): the payload's length leaves a remainder other than 0 or 2 by ten",
@@ -67,27 +70,29 @@ fn take(text: &[u8], number: u32, out: &mut [u8; ROOM]) -> bool {
     }
     let view: &[u8] = out;
     let n = printed.written;
-    files::write(&view[0..n])
+    files::write(rt, &view[0..n])
 }
 
 // One read behind the bytes that are not used, which move to the front.
-fn fill(fd: i32, name: &[u8], p: Place, input: &mut [u8]) -> Place
+fn fill(rt: &HostRuntime, source: &Input, name: &[u8], p: Place, input: &mut [u8]) -> Place
     requires { length input.old ≤ 131071 }
     ensures { (result.from ≤ result.to) × (result.to ≤ 131071) }
 {
     let held = call::keep(input, p.from, p.to);
     if held == input.len() {
         return refused(
+            rt,
             p.lines,
             b"refused (9): a longer line than that of a payload of 65,535 bytes; nothing behind it is read",
         );
     }
-    let answer = libc::read(fd, &mut input[held..]);
-    if answer < 0 {
-        os::fail(name);
-        return ended(p.lines);
-    }
-    let bytes = io::count(answer, &input[held..]);
+    let bytes = match files::read(source, &mut input[held..]) {
+        Ok(bytes) => bytes,
+        Err(e) => {
+            files::fail(rt, name, e);
+            return ended(p.lines);
+        }
+    };
     if bytes != 0 {
         return Place {
             from: 0,
@@ -98,6 +103,7 @@ fn fill(fd: i32, name: &[u8], p: Place, input: &mut [u8]) -> Place
     }
     if held != 0 {
         return refused(
+            rt,
             p.lines,
             b"refused (9): the last line has no line feed; it may be cut",
         );
@@ -106,17 +112,24 @@ fn fill(fd: i32, name: &[u8], p: Place, input: &mut [u8]) -> Place
 }
 
 // The next line, or a read where there is no whole one.
-fn turn(fd: i32, name: &[u8], p: Place, input: &mut [u8], out: &mut [u8; ROOM]) -> Place
+fn turn(
+    rt: &HostRuntime,
+    source: &Input,
+    name: &[u8],
+    p: Place,
+    input: &mut [u8],
+    out: &mut [u8; ROOM],
+) -> Place
     requires { (p.from ≤ p.to) × ((p.to ≤ length input.old) × (length input.old ≤ 131071)) }
     ensures { (result.from ≤ result.to) × (result.to ≤ 131071) }
 {
     let from = p.from;
-    let end = bytes::scan::find(input, from, p.to, 10);
+    let end = octets::find(input, from, p.to, 10);
     if end == p.to {
-        return fill(fd, name, p, input);
+        return fill(rt, source, name, p, input);
     }
     let number = line_step::one_more(p.lines);
-    let more = take(&input[from..end], number, out);
+    let more = take(rt, &input[from..end], number, out);
     Place {
         from: end + 1,
         to: p.to,
@@ -134,15 +147,22 @@ fn rest(most: u64, more: bool) -> u64
 }
 
 // `turn` on the whole buffer.
-fn next(fd: i32, name: &[u8], p: Place, input: &mut [u8; INPUT], out: &mut [u8; ROOM]) -> Place
+fn next(
+    rt: &HostRuntime,
+    source: &Input,
+    name: &[u8],
+    p: Place,
+    input: &mut [u8; INPUT],
+    out: &mut [u8; ROOM],
+) -> Place
     requires { (p.from ≤ p.to) × (p.to ≤ 131071) }
     ensures { (result.from ≤ result.to) × (result.to ≤ 131071) }
 {
-    turn(fd, name, p, input, out)
+    turn(rt, source, name, p, input, out)
 }
 
 // A whole text.
-fn convert(fd: i32, name: &[u8]) {
+fn convert(rt: &HostRuntime, source: &Input, name: &[u8]) {
     let mut input = [0u8; INPUT];
     let mut out = [0u8; ROOM];
     let mut p = Place {
@@ -154,18 +174,19 @@ fn convert(fd: i32, name: &[u8]) {
     let mut most: u64 = MOST;
     while 0 < most {
         let from = p;
-        p = next(fd, name, from, &mut input, &mut out);
+        p = next(rt, source, name, from, &mut input, &mut out);
         most = rest(most, p.more);
     }
 }
 
-fn main() {
-    let a = files::asked(0, 1);
+fn main(rt: HostRuntime) {
+    let a = files::asked(&rt, 0, 1);
     let usage = USAGE;
-    if files::no_tables(a, b"payloads", &usage) {
+    if files::no_tables(&rt, a, b"payloads", &usage) {
         return;
     }
     let done = files::answered(
+        &rt,
         a,
         b"payloads",
         &usage,
@@ -174,15 +195,16 @@ fn main() {
     if done {
         return;
     }
-    let mut name = io::buffer();
-    let n = files::argument(a.first, b"standard input", &mut name);
-    let fd = files::input(
+    let mut name = [0u8; 4096];
+    let n = files::argument(&rt, a.first, b"standard input", &mut name);
+    let source = files::input(
+        &rt,
         a.first != 0,
         &name[0..n],
         b"payloads",
         b"reading payloads from the terminal; end them with Ctrl-D (payloads --help tells more)",
     );
-    if 0 <= fd {
-        convert(fd, &name[0..n]);
+    if let Some(source) = source {
+        convert(&rt, &source, &name[0..n]);
     }
 }

@@ -1,7 +1,8 @@
 // A file that a conference left, compared with a stored answer.
 ghost use Rattle.std.specs.Prelude.{◌≤◌, length};
 
-use libc::STDOUT_FILENO;
+use files::Input;
+use std::io::Print;
 
 // The most bytes of an answer: a length of 20 digits, a blank and 16 digits.
 const ROOM: usize = 37;
@@ -10,7 +11,7 @@ const ROOM: usize = 37;
 const MOST: u32 = 4294967295;
 
 // How many bytes of a file were read, their CRC-32, and whether there may be more.
-#[derive(Drop)]
+#[derive(Clone, Copy)]
 struct Sum {
     bytes: u64,
     sum: u32,
@@ -18,19 +19,19 @@ struct Sum {
 }
 
 // One chunk more.
-fn add(fd: i32, s: Sum, chunk: &mut [u8]) -> Sum {
-    let n = io::read_full(fd, chunk);
+fn add(from: &Input, s: Sum, chunk: &mut [u8]) -> Sum {
+    let n = files::read_full(from, chunk);
     let sum = crc32::more(s.sum, &chunk[0..n]);
     Sum {
-        bytes: std::num::wrapping_add_u64(s.bytes, n as u64),
+        bytes: s.bytes.wrapping_add(n as u64),
         sum,
         more: 0 < n,
     }
 }
 
 // A whole open file.
-fn add_all(fd: i32) -> Sum {
-    let mut chunk = io::large_buffer();
+fn add_all(from: &Input) -> Sum {
+    let mut chunk = [0u8; 65536];
     let view: &mut [u8] = &mut chunk;
     let mut s = Sum {
         bytes: 0,
@@ -39,7 +40,7 @@ fn add_all(fd: i32) -> Sum {
     };
     let mut most = MOST;
     while 0 < most {
-        s = add(fd, s, view);
+        s = add(from, s, view);
         most = replay::rest(most, s.more);
     }
     s
@@ -59,34 +60,33 @@ fn put(s: Sum, answer: &mut [u8; ROOM]) -> usize
 }
 
 // Prints whether an answer is the one stored, and which it is where it is another.
-fn tell(stored: &[u8], answer: &[u8]) {
+fn tell(rt: &HostRuntime, stored: &[u8], answer: &[u8]) {
     if text::same(stored, answer) {
-        io::write_all(STDOUT_FILENO, b"as stored\n");
+        let _ = rt.write_all(b"as stored\n");
         return;
     }
-    io::write_all(STDOUT_FILENO, b"not as stored: ");
-    io::write_all(STDOUT_FILENO, answer);
-    io::write_all(STDOUT_FILENO, b"\n");
+    let _ = rt.write_all(b"not as stored: ");
+    let _ = rt.write_all(answer);
+    let _ = rt.write_all(b"\n");
 }
 
 // Compares a file with what is stored of it.
-fn compare(name: &[u8], stored: &[u8]) {
-    let fd = os::open_read(name);
-    if fd < 0 {
-        tell(stored, b"none");
-        return;
+fn compare(rt: &HostRuntime, name: &[u8], stored: &[u8]) {
+    match files::open(rt, name) {
+        Ok(file) => {
+            let mut answer = [0u8; ROOM];
+            let n = put(add_all(&Input::Named(file)), &mut answer);
+            tell(rt, stored, &answer[0..n]);
+        }
+        Err(_) => tell(rt, stored, b"none"),
     }
-    let mut answer = [0u8; ROOM];
-    let n = put(add_all(fd), &mut answer);
-    libc::close(fd);
-    tell(stored, &answer[0..n]);
 }
 
 // The same of a step's words: the name, and behind a blank the answer.
-pub(crate) fn heard(words: &[u8]) {
-    let to = bytes::scan::find(words, 0, words.len(), b' ');
+pub(crate) fn heard(rt: &HostRuntime, words: &[u8]) {
+    let to = octets::find(words, 0, words.len(), b' ');
     if to < words.len() {
         let from = to + 1;
-        compare(&words[0..to], &words[from..]);
+        compare(rt, &words[0..to], &words[from..]);
     }
 }

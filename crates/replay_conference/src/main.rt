@@ -3,11 +3,14 @@
 //   conference OUT LEG [LEG ...]   a conference, which prints its form
 //   heard FILE BYTES CRC           whether the file has so many bytes and this CRC-32, or, with `none` behind it, is missing
 //   unlink FILE
+#![tactic(auto)]
+
 ghost use Rattle.std.specs.Prelude.{◌+◌, ◌<◌, ◌≤◌, length};
 
 mod file;
 
-use libc::{STDIN_FILENO, STDOUT_FILENO};
+use files::Input;
+use std::io::Print;
 
 // The most bytes of a step.
 const ROOM: usize = 4096;
@@ -17,7 +20,7 @@ fn next(line: &[u8], from: usize) -> usize
     requires { from ≤ length line.now }
     ensures { result ≤ length line.now }
 {
-    let to = bytes::scan::find(line, from, line.len(), b' ');
+    let to = octets::find(line, from, line.len(), b' ');
     if to < line.len() { to + 1 } else { to }
 }
 
@@ -49,54 +52,54 @@ fn put(words: &[u8], names: &mut [u8]) -> usize
     if names.len() <= n {
         return 0;
     }
-    bytes::copy(words, names);
+    octets::copy(words, names);
     part(&mut names[0..n]);
     n + 1
 }
 
 // A conference of these words.
-fn conference(words: &[u8]) {
+fn conference(rt: &HostRuntime, words: &[u8]) {
     let mut names = [0u8; ROOM];
     let n = put(words, &mut names);
-    conference_files::conference(&names[0..n]);
+    conference_files::conference(rt, &names[0..n]);
 }
 
 // The step of a line.
-fn step(line: &[u8]) {
-    io::write_all(STDOUT_FILENO, line);
-    io::write_all(STDOUT_FILENO, b"\n");
+fn step(rt: &HostRuntime, line: &[u8]) {
+    let _ = rt.write_all(line);
+    let _ = rt.write_all(b"\n");
     if line.len() == 0 {
         return;
     }
     match line[0] {
-        b'c' => conference(operands(line)),
-        b'h' => file::heard(operands(line)),
+        b'c' => conference(rt, operands(line)),
+        b'h' => file::heard(rt, operands(line)),
         b'u' => {
-            os::unlink(operands(line));
+            let _ = files::remove(rt, operands(line));
         }
         _ => {}
     }
 }
 
 // The line from a place on; the place behind it.
-fn line(text: &[u8], from: usize) -> usize
+fn line(rt: &HostRuntime, text: &[u8], from: usize) -> usize
     requires { from < length text.now }
     ensures { (from < result) × (result ≤ length text.now) }
 {
-    let to = bytes::scan::find(text, from, text.len(), 10);
-    step(&text[from..to]);
+    let to = octets::find(text, from, text.len(), 10);
+    step(rt, &text[from..to]);
     if to < text.len() { to + 1 } else { to }
 }
 
-fn steps(text: &[u8]) {
+fn steps(rt: &HostRuntime, text: &[u8]) {
     let mut at = 0;
     while at < text.len() {
-        at = line(text, at);
+        at = line(rt, text, at);
     }
 }
 
-fn main() {
-    let mut text = io::large_buffer();
-    let n = io::read_full(STDIN_FILENO, &mut text);
-    steps(&text[0..n]);
+fn main(rt: HostRuntime) {
+    let mut text = [0u8; 65536];
+    let n = files::read_full(&Input::Standard(rt.stdin()), &mut text);
+    steps(&rt, &text[0..n]);
 }
