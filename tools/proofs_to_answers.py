@@ -278,6 +278,16 @@ class Conv:
             names = self.names_of(callee, "ensures")
             if len(names) > 1:
                 text = re.sub(rf"(?<![\w.]){m.group(1)}((?:\.[01])+)(?![\w])", lambda q: m.group(1) + "." + ".".join(self.clause(q.group(1)[1:].split("."), names)), text)
+        # an alias of a call's step
+        for m in list(re.finditer(r"let ([\w'₀-₉]+) = c\.([\w'«»-]+) in", text)):
+            callee = next((self.callee[p] for p, f in self.field.items() if f[1] == m.group(2)), None)
+            x = m.group(1)
+            names = self.names_of(callee, "ensures")
+            if len(names) > 1:
+                text = re.sub(rf"(?<![\w.]){x}\.ensures((?:\.[01])+)(?![\w])", lambda q: x + ".ensures." + ".".join(self.clause(q.group(1)[1:].split("."), names)), text)
+            params = self.e["params"].get(callee or "", [])
+            if params:
+                text = re.sub(rf"(?<![\w.]){x}\.(new|auto)((?:\.1)*)\.0(?![\w])", lambda q: f"{x}.{q.group(1)}.{params[q.group(2).count('1')]}", text)
         # a call's step is a record of its own today, so what it gives is cited by its fields
         text = re.sub(r"\bcame (w\d+) ([A-Za-z][\w'₀-₉.«»-]*)", r"via \1 \2.result \2.type_inv", text)
         text = re.sub(r"\bfits_came (w\d+) ([A-Za-z][\w'₀-₉.«»-]*)", r"fits_by \1 \2.result \2.type_inv", text)

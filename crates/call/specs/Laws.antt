@@ -86,7 +86,7 @@ feed_index (b ∷ l) = rw (feed_index l) (by (eqb b 10))
 
 pub found : (l : List ℕ) (from : ℕ) {r : ℕ} → r ≡ from + Octets.index_of 10 (Octets.slice from (length l) l) → r ≡ from + to_feed (drop from l)
 unfolding Octets.slice
-found l from e = e ∙ rw (take-length l, feed_index (drop from l))
+found l from e = e ∙ rw (← length-drop from l, take-length (drop from l), feed_index (drop from l))
 
 -- ---- the loop over the lines of a part
 

@@ -1,0 +1,12 @@
+-- `call::lines` meets its contract: the lines taken, and the lines that the definition takes from what is behind them, are those of the whole.
+use mathlib.Core.Path.{◌∙◌, sym}
+use native.Mathlib.Omega.{arith}
+use lib.ListN.{length-take, length-drop}
+use Rattle.call.specs.Laws.{SoFar, so_far_none, going, found, text_within, lines_done, lines_open, line_taken}
+use Rattle.call.proofs.lines.Given as goal
+
+abbrev pub invariant-loop-text : goal.invariant-loop-text
+invariant-loop-text l = SoFar l.t l.initial.b l.initial.job l.initial.left l.input l.initial.out l.b l.job l.left l.out l.used l.written
+
+abbrev pub decreases-loop-text : goal.decreases-loop-text
+decreases-loop-text l = l.left

@@ -1,0 +1,17 @@
+-- `job::names::aside` meets its contract: the path, and `.new` behind it.
+use Rattle.std.proofs.Common.{arith, rules}
+use Rattle.job.specs.Laws.{aside_short, aside_done}
+use Rattle.job.proofs.names.aside.Goals as goal
+
+pub returns-then-out-lt4 : goal.returns-then-out-lt4
+returns-then-out-lt4 c = aside_short c.args.path.now c.args.out.now (omega arith)
+
+pub returns-then-out-path : goal.returns-then-out-path
+returns-then-out-path c = aside_short c.args.path.now c.args.out.now (omega arith)
+
+pub returns : goal.returns
+returns c =
+    let s = c.args in
+    let k = c.copy-n in
+    let m = c.copy-m in
+    aside_done s.path.now s.out.now k.new.to _ k.result m.result (omega arith) k.ensures.count k.ensures.written m.ensures.count m.ensures.written

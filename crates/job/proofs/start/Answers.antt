@@ -1,0 +1,8 @@
+-- `job::start` meets its contract.
+use Rattle.std.proofs.Common.{rules}
+use Rattle.job.specs.Job.{start}
+use Rattle.job.proofs.start.Goals as goal
+
+pub returns : goal.returns
+unfolding start
+returns c = rw c.none-counts.ensures
