@@ -115,7 +115,6 @@ both P p q law e = by (eqb law 1) (eqb law 2) refl refl e
 -- ---- the calls, by the code's tests
 
 module _ (law : ℕ) (e : known law ≡ true) where
-
   module _ (bytes : List ℕ) (before out : List ℤ) (n : length bytes ≡ length before) where
     read_done : out ≡ map (value law) bytes → read 0 out ≡ read_call law bytes before
     unfolding read_call refusal

@@ -10,7 +10,6 @@ use Rattle.laws.specs.Loops.{both_hold}
 use Rattle.g711.specs.Laws.{last_is}
 
 module _ (law : ℕ) (e : known law ≡ true) where
-
   -- a table value is the sample of the byte that it turns into
   pub sample_byte : (z : ℤ) → byte_of law z < 256 → value law (byte_of law z) ≡ z
   unfolding byte_of

@@ -25,7 +25,7 @@ unfoldable pub class : Told → List ℕ
 class t =
     cond (eqb t.class 0) (ascii " (concealed))\n")
     (cond (eqb t.class 1) (labelled (ascii " (settling ") t.number (ascii "))\n"))
-    (cond (eqb t.class 2) (labelled (ascii " (not_clean ") t.number (ascii "))\n"))
+    (cond (eqb t.class 2) (labelled (ascii " (not-clean ") t.number (ascii "))\n"))
     (cond (eqb t.class 3) (ascii " (known))\n")
     (figure (ascii " (differs (sample ") t.number ++ signed (ascii ") (rest ") t.rest ++ ascii ")))\n"))))
 
@@ -38,7 +38,7 @@ stretch s to = figure (ascii "(stretch (from ") s.from ++ figure (ascii ") (to "
 unfoldable pub total : Tally → List ℕ
 total t =
     figure (ascii "(total (frames ") t.counts.frames ++ figure (ascii ") (concealed ") t.counts.lost ++ figure (ascii ") (settling ") t.settling
-    ++ figure (ascii ") (not_clean ") t.unclean ++ figure (ascii ") (known ") t.known ++ labelled (ascii ") (differ ") t.differ (ascii "))\n")
+    ++ figure (ascii ") (not-clean ") t.unclean ++ figure (ascii ") (known ") t.known ++ labelled (ascii ") (differ ") t.differ (ascii "))\n")
 
 -- the first frame that differs
 unfoldable pub fault : First → List ℕ
@@ -48,4 +48,4 @@ fault f =
 
 -- the last frame that both have, where the far samples end before the call, or the call before them
 unfoldable pub ends : Bool → ℕ → List ℕ
-ends far n = labelled (cond far (ascii "(far_ends (frame ") (ascii "(call_ends (frame ")) n (ascii "))\n")
+ends far n = labelled (cond far (ascii "(far-ends (frame ") (ascii "(call-ends (frame ")) n (ascii "))\n")

@@ -1,12 +1,9 @@
 -- The answers of `adaptive::interpolate`.
-use mathlib.Core.Path.{◌≡◌, ◌∙◌}
-use Prim.Native.Nat.{◌+◌, ◌-◌, ◌*◌, ◌≤◌}
+use mathlib.Core.Path.{◌∙◌}
+use Prim.Native.Nat.{◌-◌}
 use native.Mathlib.Omega.{arith}
-use lib.IntN.{pos}
-use mir.Val.{to_z}
 use mir.Syntax.{w16, w32}
-use Rattle.laws.specs.Lists.{at}
-use Rattle.laws.specs.Loops.{steps, steps_none, steps_turn, steps_then}
+use Rattle.laws.specs.Loops.{steps_none, steps_turn, steps_then}
 use Rattle.laws.specs.Back.{via, via2, via3}
 use Rattle.basic_op.specs.Ops.{l_mac, round}
 use Rattle.adaptive.specs.Adaptive.{interpolate}
@@ -14,14 +11,13 @@ use Rattle.std.proofs.Common.{rules}
 use Rattle.adaptive.proofs.interpolate.Goals as goal
 
 pub loop-i-preserved : goal.loop-i-preserved
-loop-i-preserved c =
-    (
-      search rules,
-      steps_turn _ _ _ _ _ c.loop-i.invariant.1
-          (via3 w16 w16 w32 l_mac _ _ _ _ c.l_mac-s-in-loop-i.result
-          (via2 w16 w16 w32 (l_mac _) _ _ c.l_mac-s.result c.l_mac-arg-1.given c.l_mac-arg-in-loop-i-1.given c.l_mac-s.type_inv c.l_mac-s.ensures)
-          c.l_mac-arg-in-loop-i-2-1.given c.l_mac-arg-in-loop-i-3-1.given c.l_mac-s-in-loop-i.type_inv c.l_mac-s-in-loop-i.ensures),
-    )
+loop-i-preserved c = (
+  search rules,
+  steps_turn _ _ _ _ _ c.loop-i.invariant.1
+      (via3 w16 w16 w32 l_mac _ _ _ _ c.l_mac-s-in-loop-i.result
+      (via2 w16 w16 w32 (l_mac _) _ _ c.l_mac-s.result c.l_mac-arg-1.given c.l_mac-arg-in-loop-i-1.given c.l_mac-s.type_inv c.l_mac-s.ensures)
+      c.l_mac-arg-in-loop-i-2-1.given c.l_mac-arg-in-loop-i-3-1.given c.l_mac-s-in-loop-i.type_inv c.l_mac-s-in-loop-i.ensures),
+)
 
 pub returns : goal.returns
 unfolding interpolate

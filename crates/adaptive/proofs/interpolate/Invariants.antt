@@ -1,15 +1,10 @@
 -- `adaptive::interpolate` meets its contract: before turn i the sum is that of the first i pairs of terms.
-use mathlib.Core.Path.{◌≡◌, ◌∙◌}
+use mathlib.Core.Path.{◌≡◌}
 use Prim.Native.Nat.{◌+◌, ◌-◌, ◌*◌, ◌≤◌}
-use native.Mathlib.Omega.{arith}
 use lib.IntN.{pos}
-use mir.Val.{to_z}
-use mir.Syntax.{w16, w32}
 use Rattle.laws.specs.Lists.{at}
-use Rattle.laws.specs.Loops.{steps, steps_none, steps_turn, steps_then}
-use Rattle.laws.specs.Back.{via, via2, via3}
-use Rattle.basic_op.specs.Ops.{l_mac, round}
-use Rattle.adaptive.specs.Adaptive.{interpolate}
+use Rattle.laws.specs.Loops.{steps}
+use Rattle.basic_op.specs.Ops.{l_mac}
 use Rattle.adaptive.proofs.interpolate.Given as goal
 
 abbrev pub invariant-loop-i : goal.invariant-loop-i

@@ -1,12 +1,11 @@
 -- The answers of `adaptive::rest`.
 use mathlib.Core.Path.{◌∙◌}
-use Prim.Native.Nat.{◌+◌, ◌-◌, ◌≤◌}
+use Prim.Native.Nat.{◌-◌}
 use native.Mathlib.Omega.{arith}
 use mir.Syntax.{w16}
 use Rattle.laws.specs.Loops.{run, write, ended_from}
 use Rattle.laws.specs.Back.{via}
 use Rattle.adaptive.specs.Adaptive.{interpolate}
-use Rattle.adaptive.specs.Fast.{Continues}
 use Rattle.std.proofs.Common.{rules}
 use Rattle.adaptive.proofs.rest.Goals as goal
 

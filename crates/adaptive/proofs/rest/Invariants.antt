@@ -1,10 +1,5 @@
 -- `adaptive::rest` meets its contract: before turn n it has gone from the first `done` words to the first n.
-use mathlib.Core.Path.{◌∙◌}
 use Prim.Native.Nat.{◌+◌, ◌-◌, ◌≤◌}
-use native.Mathlib.Omega.{arith}
-use mir.Syntax.{w16}
-use Rattle.laws.specs.Loops.{run, write, ended_from}
-use Rattle.laws.specs.Back.{via}
 use Rattle.adaptive.specs.Adaptive.{interpolate}
 use Rattle.adaptive.specs.Fast.{Continues}
 use Rattle.adaptive.proofs.rest.Given as goal

@@ -1,6 +1,6 @@
 -- `agree::agree` meets its contract: each way out rewrites with the tests that led there.
 use mathlib.Core.Path.{sym, ◌∙◌}
-use borrow.Author.Tests.{eq-eqb, ne_eqb, not-true, not-false}
+use borrow.Author.Tests.{eq-eqb, ne_eqb}
 use Rattle.agree.specs.Agree.{agreement, agree}
 use Rattle.agree.proofs.agree.Goals as goal
 

@@ -1,9 +1,8 @@
 -- The answers of `agree::equal_words`.
-use mathlib.Core.Path.{◌≡◌, ◌∙◌}
-use mathlib.Core.Logic.{⊎_elim}
-use Prim.Native.Nat.{◌-◌, ◌≤◌}
+use mathlib.Core.Path.{◌∙◌}
+use Prim.Native.Nat.{◌-◌}
 use mir.Syntax.{w16}
-use Rattle.laws.specs.Back.{came, via}
+use Rattle.laws.specs.Back.{via}
 use Rattle.laws.specs.Loops.{nowhere_none, nowhere_hit, nowhere_miss, ended}
 use Rattle.agree.specs.Agree.{equal_words}
 use native.Mathlib.Omega.{arith}
@@ -19,8 +18,7 @@ pub loop-k-preserved : goal.loop-k-preserved
 unfolding equal_words
 loop-k-preserved c =
     let y = c.word-y in
-    let x = c.word-x in
-    (
+    let x = c.word-x in (
       search rules,
       elim c.if-x-y.branch [ then-x-y w ↦ w.ok-is ∙ nowhere_hit _ _ (rw (via w16 x.result x.type_inv, via w16 y.result y.type_inv, x.ensures, y.ensures) at w.if-x-y.true) | else-x-y w ↦ w.ok-is ∙ nowhere_miss _ _ _ c.loop-k.invariant.1 (rw (via w16 x.result x.type_inv, via w16 y.result y.type_inv, x.ensures, y.ensures) at w.if-x-y.false) ],
     )

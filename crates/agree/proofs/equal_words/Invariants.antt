@@ -1,12 +1,7 @@
 -- `agree::equal_words` meets its contract: the first k words are compared.
-use mathlib.Core.Path.{◌≡◌, ◌∙◌}
-use mathlib.Core.Logic.{⊎_elim}
+use mathlib.Core.Path.{◌≡◌}
 use Prim.Native.Nat.{◌-◌, ◌≤◌}
-use mir.Syntax.{w16}
-use Rattle.laws.specs.Back.{came, via}
-use Rattle.laws.specs.Loops.{nowhere_none, nowhere_hit, nowhere_miss, ended}
 use Rattle.agree.specs.Agree.{equal_words}
-use native.Mathlib.Omega.{arith}
 use Rattle.agree.proofs.equal_words.Given as goal
 
 abbrev pub invariant-loop-k : goal.invariant-loop-k

@@ -1,6 +1,6 @@
 -- `agree::same_seed_bits` meets its contract: the bits of both seeds.
 use mir.Syntax.{w16}
-use Rattle.laws.specs.Back.{came, via}
+use Rattle.laws.specs.Back.{via}
 use Rattle.agree.specs.Agree.{same_seed_bits}
 use Rattle.agree.proofs.same_seed_bits.Goals as goal
 

@@ -1,10 +1,8 @@
 -- The answers of `arrival_line::front`.
-use mathlib.Core.Path.{◌≡◌, sym, ◌∙◌}
-use Prim.Native.Nat.{◌+◌, ◌-◌, ◌≤◌}
+use mathlib.Core.Path.{sym, ◌∙◌}
+use Prim.Native.Nat.{◌-◌}
 use native.Mathlib.Nat.{zero-add}
 use native.Mathlib.Omega.{arith}
-use lib.ListN.{length, drop}
-use Rattle.arrival_line.specs.ArrivalLine.{front}
 use Rattle.arrival_line.specs.Laws.{front_stops, front_goes, front_ends}
 use Rattle.std.proofs.Common.{rules}
 use Rattle.arrival_line.proofs.front.Goals as goal

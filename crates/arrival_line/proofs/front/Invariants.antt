@@ -1,11 +1,8 @@
 -- `arrival_line::front` meets its contract: before turn i none of the first i bytes separates.
-use mathlib.Core.Path.{◌≡◌, sym, ◌∙◌}
+use mathlib.Core.Path.{◌≡◌}
 use Prim.Native.Nat.{◌+◌, ◌-◌, ◌≤◌}
-use native.Mathlib.Nat.{zero-add}
-use native.Mathlib.Omega.{arith}
 use lib.ListN.{length, drop}
 use Rattle.arrival_line.specs.ArrivalLine.{front}
-use Rattle.arrival_line.specs.Laws.{front_stops, front_goes, front_ends}
 use Rattle.arrival_line.proofs.front.Given as goal
 
 abbrev pub invariant-loop-i : goal.invariant-loop-i

@@ -1,11 +1,8 @@
 -- The answers of `arrival_line::number`.
-use mathlib.Core.Path.{◌≡◌, refl, sym, ◌∙◌}
+use mathlib.Core.Path.{refl, sym, ◌∙◌}
 use Prim.Native.Nat.{◌-◌, ◌≤◌}
 use native.Mathlib.Omega.{arith}
-use lib.ListN.{length, drop, get_or}
-use borrow.Author.Tests.{not-true, not-false}
-use Rattle.print.specs.Laws.{read as value}
-use Rattle.arrival_line.specs.ArrivalLine.{all_digits}
+use lib.ListN.{get_or}
 use Rattle.arrival_line.specs.Laws.{digit_range, all_goes, value_goes, number_none, number_stops, number_over, number_ends}
 use Rattle.std.proofs.Common.{rules}
 use Rattle.arrival_line.proofs.number.Goals as goal

@@ -1,12 +1,9 @@
 -- `arrival_line::number` meets its contract: before turn i the first i bytes are digits, and n is their value, of 32 bits.
-use mathlib.Core.Path.{◌≡◌, refl, sym, ◌∙◌}
+use mathlib.Core.Path.{◌≡◌}
 use Prim.Native.Nat.{◌-◌, ◌≤◌}
-use native.Mathlib.Omega.{arith}
-use lib.ListN.{length, drop, get_or}
-use borrow.Author.Tests.{not-true, not-false}
+use lib.ListN.{length, drop}
 use Rattle.print.specs.Laws.{read as value}
 use Rattle.arrival_line.specs.ArrivalLine.{all_digits}
-use Rattle.arrival_line.specs.Laws.{digit_range, all_goes, value_goes, number_none, number_stops, number_over, number_ends}
 use Rattle.arrival_line.proofs.number.Given as goal
 
 abbrev pub invariant-loop-i : goal.invariant-loop-i

@@ -5,7 +5,7 @@ use lib.IntN.{pos}
 use mir.Syntax.{w16, w32}
 use mir.Val.{to_z, of_z}
 use mir.Facts.{to_z-of_z}
-use Rattle.laws.specs.Back.{came, via, nonneg_of}
+use Rattle.laws.specs.Back.{via, nonneg_of}
 use Rattle.basic_op.specs.Log.{Normalized, normalized, log_none, fits_less}
 use Rattle.basic_op.proofs.base2_log.Goals as goal
 use Rattle.basic_op.proofs.base2_log.Goals.{After-l_shl-m}

@@ -1,7 +1,7 @@
 -- `basic_op::interpolate_q15` meets its contract. Assumes nothing.
 use mir.Syntax.{w16, w32}
 use mir.Facts.{to_z-of_z}
-use Rattle.laws.specs.Back.{came, via}
+use Rattle.laws.specs.Back.{via}
 use Rattle.basic_op.specs.Oper32b.{interpolate_q15}
 use Rattle.basic_op.proofs.interpolate_q15.Goals as goal
 

@@ -3,7 +3,7 @@ use mir.Syntax.{w32, w64}
 use mir.Facts.{to_z-of_z}
 use Rattle.basic_op.specs.Ops.{l_add}
 use Rattle.laws.specs.Range.{fits_add}
-use Rattle.laws.specs.Back.{came, via, widens, wide, still}
+use Rattle.laws.specs.Back.{via, widens, wide, still}
 use Rattle.basic_op.proofs.l_add.Goals as goal
 
 pub overflow_add-a : goal.overflow_add-a

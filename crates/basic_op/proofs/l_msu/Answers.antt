@@ -2,7 +2,7 @@
 use mir.Syntax.{w32}
 use mir.Facts.{to_z-of_z}
 use Rattle.basic_op.specs.Ops.{l_msu}
-use Rattle.laws.specs.Back.{came, via}
+use Rattle.laws.specs.Back.{via}
 use Rattle.basic_op.proofs.l_msu.Goals as goal
 
 pub returns : goal.returns

@@ -3,7 +3,7 @@ use mir.Syntax.{w32, w64}
 use mir.Facts.{to_z-of_z}
 use Rattle.basic_op.specs.Ops.{l_msu_overflow}
 use Rattle.laws.specs.Range.{fits_sub}
-use Rattle.laws.specs.Back.{fits_came, fits_by, widens, wide, still}
+use Rattle.laws.specs.Back.{fits_by, widens, wide, still}
 use Rattle.basic_op.proofs.l_msu_overflow.Goals as goal
 
 pub overflow_sub-acc : goal.overflow_sub-acc

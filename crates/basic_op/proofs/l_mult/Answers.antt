@@ -4,7 +4,7 @@ use mir.Syntax.{w16, w32, w64}
 use mir.Facts.{to_z-of_z, sfits_lit}
 use Rattle.basic_op.specs.Ops.{l_mult}
 use Rattle.laws.specs.Range.{fits_mul}
-use Rattle.laws.specs.Back.{came, via, keep, widens, wide, still}
+use Rattle.laws.specs.Back.{via, keep, widens, wide, still}
 use Rattle.basic_op.proofs.l_mult.Goals as goal
 
 pub overflow_mul-a : goal.overflow_mul-a

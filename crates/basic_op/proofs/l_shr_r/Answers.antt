@@ -6,7 +6,7 @@ use mir.Facts.{to_z-of_z, sfits_lit}
 use Rattle.basic_op.specs.Ops.{l_shr_r, rounded}
 use Rattle.laws.specs.Range.{fits_add, fits_half}
 use Rattle.basic_op.specs.Laws.{by_pos, by_neg, rounded_zero, rounded_far, rounded_in}
-use Rattle.laws.specs.Back.{came, via, fits_came, fits_by, widens, wide, still}
+use Rattle.laws.specs.Back.{via, fits_by, widens, wide, still}
 use Rattle.basic_op.proofs.l_shr_r.Goals as goal
 
 pub returns-then-n-lt0 : goal.returns-then-n-lt0

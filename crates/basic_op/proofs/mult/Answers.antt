@@ -3,7 +3,7 @@ use mir.Syntax.{w16, w32}
 use mir.Facts.{to_z-of_z}
 use Rattle.basic_op.specs.Ops.{mult}
 use Rattle.laws.specs.Range.{fits_mul}
-use Rattle.laws.specs.Back.{came, via, widens, wide, still}
+use Rattle.laws.specs.Back.{via, widens, wide, still}
 use Rattle.basic_op.proofs.mult.Goals as goal
 
 pub overflow_mul-a : goal.overflow_mul-a

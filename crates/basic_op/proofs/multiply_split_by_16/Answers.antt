@@ -1,7 +1,7 @@
 -- `basic_op::multiply_split_by_16` meets its contract. Assumes nothing.
 use mir.Syntax.{w16, w32}
 use mir.Facts.{to_z-of_z}
-use Rattle.laws.specs.Back.{came, via}
+use Rattle.laws.specs.Back.{via}
 use Rattle.basic_op.specs.Oper32b.{multiply_split_by_16}
 use Rattle.basic_op.proofs.multiply_split_by_16.Goals as goal
 

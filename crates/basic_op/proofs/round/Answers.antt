@@ -2,7 +2,7 @@
 use mir.Syntax.{w16, w32}
 use mir.Facts.{to_z-of_z}
 use Rattle.basic_op.specs.Ops.{round}
-use Rattle.laws.specs.Back.{came, via}
+use Rattle.laws.specs.Back.{via}
 use Rattle.basic_op.proofs.round.Goals as goal
 
 pub returns : goal.returns

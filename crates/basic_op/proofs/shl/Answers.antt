@@ -4,7 +4,7 @@ use mir.Syntax.{w16}
 use mir.Facts.{to_z-of_z}
 use Rattle.basic_op.specs.Ops.{shl}
 use Rattle.basic_op.specs.Laws.{by_pos, by_neg}
-use Rattle.laws.specs.Back.{came, via}
+use Rattle.laws.specs.Back.{via}
 use Rattle.basic_op.proofs.shl.Goals as goal
 
 pub returns-then-n-lt0 : goal.returns-then-n-lt0

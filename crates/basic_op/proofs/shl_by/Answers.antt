@@ -6,7 +6,7 @@ use mir.Syntax.{w16, w32}
 use mir.Facts.{to_z-of_z}
 use Rattle.basic_op.specs.Laws.{sat_far}
 use Rattle.laws.specs.Range.{fits_scale, fits_shl}
-use Rattle.laws.specs.Back.{came, via, widens, wide, still}
+use Rattle.laws.specs.Back.{via, widens, wide, still}
 use Rattle.basic_op.proofs.shl_by.Goals as goal
 
 pub overflow_mul-a : goal.overflow_mul-a

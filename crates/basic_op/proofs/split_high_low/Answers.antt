@@ -1,7 +1,7 @@
 -- `basic_op::split_high_low` meets its contract. Assumes nothing.
 use mir.Syntax.{w16, w32}
 use mir.Facts.{to_z-of_z}
-use Rattle.laws.specs.Back.{came, via}
+use Rattle.laws.specs.Back.{via}
 use Rattle.basic_op.specs.Oper32b.{split_high_low}
 use Rattle.basic_op.proofs.split_high_low.Goals as goal
 

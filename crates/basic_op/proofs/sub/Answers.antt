@@ -3,7 +3,7 @@ use mir.Syntax.{w16, w32}
 use mir.Facts.{to_z-of_z}
 use Rattle.basic_op.specs.Ops.{sub}
 use Rattle.laws.specs.Range.{fits_sub}
-use Rattle.laws.specs.Back.{came, via, widens, wide, still}
+use Rattle.laws.specs.Back.{via, widens, wide, still}
 use Rattle.basic_op.proofs.sub.Goals as goal
 
 pub overflow_sub-a : goal.overflow_sub-a

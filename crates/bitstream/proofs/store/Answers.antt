@@ -1,8 +1,8 @@
 -- The answers of `bitstream::store`.
-use mathlib.Core.Path.{◌≡◌, refl}
-use Prim.Native.Nat.{◌-◌, ◌≤◌}
+use mathlib.Core.Path.{refl}
+use Prim.Native.Nat.{◌-◌}
 use native.Mathlib.Omega.{arith}
-use lib.ListN.{length, take, length-set}
+use lib.ListN.{length-set}
 use Rattle.bitstream.specs.Laws.{copy, copied}
 use Rattle.std.proofs.Common.{rules}
 use Rattle.bitstream.proofs.store.Goals as goal

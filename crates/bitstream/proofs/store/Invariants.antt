@@ -1,9 +1,7 @@
 -- `bitstream::store` meets its contract: the words that are behind are those of the array.
-use mathlib.Core.Path.{◌≡◌, refl}
+use mathlib.Core.Path.{◌≡◌}
 use Prim.Native.Nat.{◌-◌, ◌≤◌}
-use native.Mathlib.Omega.{arith}
-use lib.ListN.{length, take, length-set}
-use Rattle.bitstream.specs.Laws.{copy, copied}
+use lib.ListN.{length, take}
 use Rattle.bitstream.proofs.store.Given as goal
 
 abbrev pub invariant-loop-i : goal.invariant-loop-i

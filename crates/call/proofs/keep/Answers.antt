@@ -1,9 +1,9 @@
 -- The answers of `call::keep`.
-use mathlib.Core.Path.{◌≡◌, refl}
-use Prim.Native.Nat.{◌-◌, ◌≤◌}
+use mathlib.Core.Path.{refl}
+use Prim.Native.Nat.{◌-◌}
 use native.Mathlib.Omega.{arith}
-use lib.ListN.{length, length-set}
-use lib.Seq.{paste, paste-zero, slice}
+use lib.ListN.{length-set}
+use lib.Seq.{paste-zero, slice}
 use Rattle.call.specs.Laws.{slice_none_over, slice_length, slice_move, slice_over}
 use Rattle.std.proofs.Common.{rules}
 use Rattle.call.proofs.keep.Goals as goal

@@ -1,10 +1,8 @@
 -- `call::keep` meets its contract: the bytes passed are at the front, and those to come are where they were.
-use mathlib.Core.Path.{◌≡◌, refl}
+use mathlib.Core.Path.{◌≡◌}
 use Prim.Native.Nat.{◌-◌, ◌≤◌}
-use native.Mathlib.Omega.{arith}
-use lib.ListN.{length, length-set}
-use lib.Seq.{paste, paste-zero, slice}
-use Rattle.call.specs.Laws.{slice_none_over, slice_length, slice_move, slice_over}
+use lib.ListN.{length}
+use lib.Seq.{paste, slice}
 use Rattle.call.proofs.keep.Given as goal
 
 abbrev pub invariant-loop-i : goal.invariant-loop-i

@@ -2,7 +2,7 @@
 use mathlib.Core.Path.{◌∙◌, sym}
 use native.Mathlib.Omega.{arith}
 use lib.ListN.{length-take, length-drop}
-use Rattle.call.specs.Laws.{SoFar, so_far_none, going, found, text_within, lines_done, lines_open, line_taken}
+use Rattle.call.specs.Laws.{so_far_none, going, found, text_within, lines_done, lines_open, line_taken}
 use Rattle.std.proofs.Common.{rules}
 use Rattle.call.proofs.lines.Goals as goal
 

@@ -1,8 +1,5 @@
 -- `call::lines` meets its contract: the lines taken, and the lines that the definition takes from what is behind them, are those of the whole.
-use mathlib.Core.Path.{◌∙◌, sym}
-use native.Mathlib.Omega.{arith}
-use lib.ListN.{length-take, length-drop}
-use Rattle.call.specs.Laws.{SoFar, so_far_none, going, found, text_within, lines_done, lines_open, line_taken}
+use Rattle.call.specs.Laws.{SoFar}
 use Rattle.call.proofs.lines.Given as goal
 
 abbrev pub invariant-loop-text : goal.invariant-loop-text

@@ -1,7 +1,7 @@
 -- `compare_step::clean_after` meets its contract: each test picks its case.
 use mathlib.Core.Path.{◌∙◌}
 use mir.Syntax.{w16}
-use Rattle.laws.specs.Back.{via, came}
+use Rattle.laws.specs.Back.{via}
 use Rattle.compare_step.proofs.Parts.{Kept}
 use Rattle.std.proofs.Common.{rules}
 use Rattle.compare_step.proofs.clean_after.Goals as goal

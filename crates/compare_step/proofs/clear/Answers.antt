@@ -1,10 +1,9 @@
 -- The answers of `compare_step::clear`.
-use Prim.Native.Nat.{◌-◌, ◌≤◌}
-use mathlib.Core.Path.{◌≡◌, refl, ◌∙◌}
+use Prim.Native.Nat.{◌-◌}
+use mathlib.Core.Path.{refl, ◌∙◌}
 use native.Mathlib.Omega.{arith}
-use lib.IntN.{pos}
-use lib.ListN.{length, length-set}
-use Rattle.laws.specs.Lists.{filled, filled_none, fill, filled_end}
+use lib.ListN.{length-set}
+use Rattle.laws.specs.Lists.{filled_none, fill, filled_end}
 use Rattle.compare_step.proofs.Parts.{tab_zeros}
 use Rattle.std.proofs.Common.{rules}
 use Rattle.compare_step.proofs.clear.Goals as goal

@@ -1,11 +1,9 @@
 -- `compare_step::clear` meets its contract: before turn i the first i words are 0.
 use Prim.Native.Nat.{◌-◌, ◌≤◌}
-use mathlib.Core.Path.{◌≡◌, refl, ◌∙◌}
-use native.Mathlib.Omega.{arith}
+use mathlib.Core.Path.{◌≡◌}
 use lib.IntN.{pos}
-use lib.ListN.{length, length-set}
-use Rattle.laws.specs.Lists.{filled, filled_none, fill, filled_end}
-use Rattle.compare_step.proofs.Parts.{tab_zeros}
+use lib.ListN.{length}
+use Rattle.laws.specs.Lists.{filled}
 use Rattle.compare_step.proofs.clear.Given as goal
 
 abbrev pub invariant-loop-i : goal.invariant-loop-i

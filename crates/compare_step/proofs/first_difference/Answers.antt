@@ -3,7 +3,7 @@ use mathlib.Core.Path.{◌∙◌}
 use mir.Syntax.{w16}
 use mir.Facts.{to_z-of_z}
 use native.Mathlib.Omega.{arith}
-use Rattle.laws.specs.Back.{came, via}
+use Rattle.laws.specs.Back.{via}
 use Rattle.laws.specs.Range.{mag_sub}
 use Rattle.compare_step.specs.Compare.{first_difference}
 use Rattle.compare_step.proofs.first_difference.Goals as goal

@@ -1,6 +1,6 @@
 -- `compare_step::next_clean` meets its contract: each test picks its case.
 use native.Mathlib.Omega.{arith}
-use borrow.Author.Tests.{not-true, not-false, ltb-true, lt-ltb}
+use borrow.Author.Tests.{ltb-true, lt-ltb}
 use mir.Facts.{to_z-of_z}
 use lib.IntN.{ℤ, pos, negsuc, ◌+ℤ◌}
 use lib.Signed.{mag, lt_z}

@@ -1,6 +1,6 @@
 -- `compare_step::read_far` meets its contract: each part from its place.
 use mir.Syntax.{w16}
-use Rattle.laws.specs.Back.{came, via}
+use Rattle.laws.specs.Back.{via}
 use Rattle.compare_step.specs.Compare.{read_far}
 use Rattle.compare_step.proofs.read_far.Goals as goal
 

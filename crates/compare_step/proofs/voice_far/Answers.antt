@@ -3,7 +3,7 @@ use mathlib.Core.Path.{◌≡◌, ◌∙◌}
 use mir.Syntax.{w16}
 use mir.Facts.{to_z-of_z}
 use lib.ListN.{length}
-use Rattle.laws.specs.Back.{came, via}
+use Rattle.laws.specs.Back.{via}
 use Rattle.block.specs.Laws.{last_part}
 use Rattle.compare_step.specs.Compare.{voice_far, next_status}
 use Rattle.std.proofs.Common.{rules}

@@ -2,7 +2,7 @@
 use mathlib.Core.Path.{ap, ◌∙◌}
 use lib.IntN.{ℤ}
 use mir.Syntax.{w16}
-use Rattle.laws.specs.Back.{via, came}
+use Rattle.laws.specs.Back.{via}
 use Rattle.pitch.specs.Pitch.{parity_ok}
 use Rattle.compare_step.specs.Compare.{next_count, tells, voice_far, class, voice_step}
 use Rattle.compare_step.proofs.voice_step.Goals as goal

@@ -1,7 +1,6 @@
 -- `count::count` meets its contract: each way out rewrites with the tests that led there, and counts that are not full have room for a frame and both its rules.
 use mathlib.Core.Path.{sym, ◌∙◌}
 use native.Mathlib.Omega.{arith}
-use borrow.Author.Tests.{not-true, not-false}
 use Rattle.count.specs.Count.{with_frame, with_both, count}
 use Rattle.count.specs.Laws.{room, more_few, frame_few, rule_few}
 use Rattle.count.proofs.count.Goals as goal

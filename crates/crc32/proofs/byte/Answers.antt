@@ -1,8 +1,6 @@
 -- The answers of `crc32::byte`.
-use Prim.Native.Nat.{◌-◌, ◌≤◌}
-use mathlib.Core.Path.{◌≡◌}
+use Prim.Native.Nat.{◌-◌}
 use native.Mathlib.Omega.{arith}
-use Rattle.crc32.specs.Crc32.{bits}
 use Rattle.crc32.specs.Laws.{bits_none, bits_more, bits_end}
 use Rattle.std.proofs.Common.{rules}
 use Rattle.crc32.proofs.byte.Goals as goal

@@ -1,9 +1,7 @@
 -- `crc32::byte` meets its contract: before turn i, i bits are out.
 use Prim.Native.Nat.{◌-◌, ◌≤◌}
 use mathlib.Core.Path.{◌≡◌}
-use native.Mathlib.Omega.{arith}
 use Rattle.crc32.specs.Crc32.{bits}
-use Rattle.crc32.specs.Laws.{bits_none, bits_more, bits_end}
 use Rattle.crc32.proofs.byte.Given as goal
 
 abbrev pub invariant-loop-i : goal.invariant-loop-i

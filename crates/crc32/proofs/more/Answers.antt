@@ -1,9 +1,6 @@
 -- The answers of `crc32::more`.
-use Prim.Native.Nat.{◌-◌, ◌≤◌}
-use mathlib.Core.Path.{◌≡◌}
+use Prim.Native.Nat.{◌-◌}
 use native.Mathlib.Omega.{arith}
-use lib.ListN.{length, take}
-use Rattle.crc32.specs.Crc32.{run}
 use Rattle.crc32.specs.Laws.{run_none, run_more, run_end}
 use Rattle.std.proofs.Common.{rules}
 use Rattle.crc32.proofs.more.Goals as goal

@@ -1,10 +1,8 @@
 -- `crc32::more` meets its contract: before turn i the first i bytes are in the sum.
 use Prim.Native.Nat.{◌-◌, ◌≤◌}
 use mathlib.Core.Path.{◌≡◌}
-use native.Mathlib.Omega.{arith}
 use lib.ListN.{length, take}
 use Rattle.crc32.specs.Crc32.{run}
-use Rattle.crc32.specs.Laws.{run_none, run_more, run_end}
 use Rattle.crc32.proofs.more.Given as goal
 
 abbrev pub invariant-loop-i : goal.invariant-loop-i

@@ -1,5 +1,5 @@
 -- `decoder::input_check` meets its contract: each test picks its case of the definition.
-use borrow.Author.Tests.{eq-eqb, ne_eqb, not-true, not-false}
+use borrow.Author.Tests.{eq-eqb, ne_eqb}
 use Rattle.decoder.specs.Call.{input_check}
 use Rattle.decoder.proofs.input_check.Goals as goal
 

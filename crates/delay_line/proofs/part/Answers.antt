@@ -12,10 +12,9 @@ put-requires c =
 
 pub returns : goal.returns
 unfolding part
-returns c =
-    (
-      omega (arith, c.figure-a.ensures.0, c.figure-b.ensures.0, c.figure-c.ensures.0, c.put-d.ensures.place, c.two-e.ensures.place, length_two c.hundredths-h.result, c.put.ensures.place),
-      front
-          (rw c.hundredths-h.ensures at
-          (then (then (then (then (then c.figure-a.ensures.1 c.figure-b.ensures.1) c.figure-c.ensures.1) c.put-d.ensures) c.two-e.ensures) c.put.ensures)),
-    )
+returns c = (
+  omega (arith, c.figure-a.ensures.0, c.figure-b.ensures.0, c.figure-c.ensures.0, c.put-d.ensures.place, c.two-e.ensures.place, length_two c.hundredths-h.result, c.put.ensures.place),
+  front
+      (rw c.hundredths-h.ensures at
+      (then (then (then (then (then c.figure-a.ensures.1 c.figure-b.ensures.1) c.figure-c.ensures.1) c.put-d.ensures) c.two-e.ensures) c.put.ensures)),
+)

@@ -7,9 +7,8 @@ use Rattle.delay_line.proofs.row.Goals as goal
 
 pub returns : goal.returns
 unfolding row
-returns c =
-    (
-      omega (arith, c.figure-a.ensures.0, c.figure-b.ensures.0, c.figure-c.ensures.0, c.figure-d.ensures.0, c.figure-e.ensures.0, c.put.ensures.place),
-      front
-          (then (then (then (then (then c.figure-a.ensures.1 c.figure-b.ensures.1) c.figure-c.ensures.1) c.figure-d.ensures.1) c.figure-e.ensures.1) c.put.ensures),
-    )
+returns c = (
+  omega (arith, c.figure-a.ensures.0, c.figure-b.ensures.0, c.figure-c.ensures.0, c.figure-d.ensures.0, c.figure-e.ensures.0, c.put.ensures.place),
+  front
+      (then (then (then (then (then c.figure-a.ensures.1 c.figure-b.ensures.1) c.figure-c.ensures.1) c.figure-d.ensures.1) c.figure-e.ensures.1) c.put.ensures),
+)

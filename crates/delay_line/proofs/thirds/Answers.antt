@@ -2,7 +2,7 @@
 use Prim.Native.Nat.{◌<◌}
 use lib.Signed.{mag}
 use mir.Syntax.{w16, w32}
-use Rattle.laws.specs.Back.{came, via}
+use Rattle.laws.specs.Back.{via}
 use Rattle.delay_line.specs.DelayLine.{thirds}
 use Rattle.std.proofs.Common.{rules}
 use Rattle.delay_line.proofs.thirds.Goals as goal

@@ -1,9 +1,5 @@
 -- The answers of `depth_table::earliest`.
-use Prim.Native.Nat.{◌≤◌, min}
-use mathlib.Core.Path.{◌≡◌}
 use native.Mathlib.Omega.{arith}
-use lib.ListN.{length, drop}
-use Rattle.depth_table.specs.Table.{lowest}
 use Rattle.depth_table.specs.Laws.{lowest_none, lowest_more, earliest_none, earliest_end}
 use Rattle.depth_table.proofs.earliest.Goals as goal
 

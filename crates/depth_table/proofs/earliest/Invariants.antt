@@ -1,10 +1,8 @@
 -- `depth_table::earliest` meets its contract: what is done is the least of the arrivals from i on.
 use Prim.Native.Nat.{◌≤◌, min}
 use mathlib.Core.Path.{◌≡◌}
-use native.Mathlib.Omega.{arith}
 use lib.ListN.{length, drop}
 use Rattle.depth_table.specs.Table.{lowest}
-use Rattle.depth_table.specs.Laws.{lowest_none, lowest_more, earliest_none, earliest_end}
 use Rattle.depth_table.proofs.earliest.Given as goal
 
 abbrev pub invariant-loop-i : goal.invariant-loop-i

@@ -1,9 +1,6 @@
 -- The answers of `depth_table::frames`.
-use Prim.Native.Nat.{◌≤◌}
-use mathlib.Core.Path.{◌≡◌}
 use native.Mathlib.Omega.{arith}
-use lib.ListN.{length, drop}
-use Rattle.depth_table.specs.Table.{frames}
+use lib.ListN.{length}
 use Rattle.depth_table.specs.Laws.{frames_none, frames_more, frames_end}
 use Rattle.depth_table.proofs.frames.Goals as goal
 

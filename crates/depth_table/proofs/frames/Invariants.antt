@@ -1,10 +1,8 @@
 -- `depth_table::frames` meets its contract: what is done is the count of the arrivals from i on.
 use Prim.Native.Nat.{◌≤◌}
 use mathlib.Core.Path.{◌≡◌}
-use native.Mathlib.Omega.{arith}
 use lib.ListN.{length, drop}
 use Rattle.depth_table.specs.Table.{frames}
-use Rattle.depth_table.specs.Laws.{frames_none, frames_more, frames_end}
 use Rattle.depth_table.proofs.frames.Given as goal
 
 abbrev pub invariant-loop-i : goal.invariant-loop-i

@@ -7,8 +7,7 @@ use Rattle.depth_table.proofs.heading.Goals as goal
 
 pub returns : goal.returns
 unfolding heading
-returns c =
-    (
-      omega (arith, c.figure-a.ensures.0, c.figure-b.ensures.0, c.figure-c.ensures.0, c.put.ensures.place),
-      front (then (then (then c.figure-a.ensures.1 c.figure-b.ensures.1) c.figure-c.ensures.1) c.put.ensures),
-    )
+returns c = (
+  omega (arith, c.figure-a.ensures.0, c.figure-b.ensures.0, c.figure-c.ensures.0, c.put.ensures.place),
+  front (then (then (then c.figure-a.ensures.1 c.figure-b.ensures.1) c.figure-c.ensures.1) c.put.ensures),
+)

@@ -11,8 +11,7 @@ put-requires c =
 
 pub returns : goal.returns
 unfolding percent
-returns c =
-    (
-      omega (arith, c.figure-a.ensures.0, c.put-b.ensures.place, c.two-c.ensures.place, length_two c.args.h, c.put.ensures.place),
-      then (then (then c.figure-a.ensures.1 c.put-b.ensures) c.two-c.ensures) c.put.ensures,
-    )
+returns c = (
+  omega (arith, c.figure-a.ensures.0, c.put-b.ensures.place, c.two-c.ensures.place, length_two c.args.h, c.put.ensures.place),
+  then (then (then c.figure-a.ensures.1 c.put-b.ensures) c.two-c.ensures) c.put.ensures,
+)

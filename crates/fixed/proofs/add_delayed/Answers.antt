@@ -1,13 +1,12 @@
 -- The answers of `fixed::add_delayed`.
-use Prim.Native.Nat.{◌+◌, ◌-◌, ◌≤◌}
-use mathlib.Core.Path.{◌≡◌, ◌∙◌}
+use Prim.Native.Nat.{◌+◌, ◌-◌}
+use mathlib.Core.Path.{◌∙◌}
 use native.Mathlib.Omega.{arith}
 use mir.Syntax.{w16}
-use mir.Val.{to_z}
 use mir.Facts.{to_z-of_z}
 use Rattle.laws.specs.Lists.{at}
-use Rattle.laws.specs.Loops.{run, run_none, write}
-use Rattle.laws.specs.Back.{came, via}
+use Rattle.laws.specs.Loops.{run_none, write}
+use Rattle.laws.specs.Back.{via}
 use Rattle.basic_op.specs.Ops.{add, mult}
 use Rattle.fixed.specs.Laws.{add_delayed_end}
 use Rattle.std.proofs.Common.{rules}

@@ -1,15 +1,9 @@
 -- `fixed::add_delayed` meets its contract: before turn n the first n words from t0 on are written. Assumes nothing.
 use Prim.Native.Nat.{◌+◌, ◌-◌, ◌≤◌}
-use mathlib.Core.Path.{◌≡◌, ◌∙◌}
-use native.Mathlib.Omega.{arith}
-use mir.Syntax.{w16}
-use mir.Val.{to_z}
-use mir.Facts.{to_z-of_z}
+use mathlib.Core.Path.{◌≡◌}
 use Rattle.laws.specs.Lists.{at}
-use Rattle.laws.specs.Loops.{run, run_none, write}
-use Rattle.laws.specs.Back.{came, via}
+use Rattle.laws.specs.Loops.{run}
 use Rattle.basic_op.specs.Ops.{add, mult}
-use Rattle.fixed.specs.Laws.{add_delayed_end}
 use Rattle.fixed.proofs.add_delayed.Given as goal
 
 abbrev pub invariant-loop-n : goal.invariant-loop-n

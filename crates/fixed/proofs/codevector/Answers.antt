@@ -1,14 +1,11 @@
 -- The answers of `fixed::codevector`.
-use Prim.Native.Nat.{◌-◌, ◌≤◌, ◌<◌}
-use mathlib.Core.Path.{◌≡◌, ◌∙◌}
+use Prim.Native.Nat.{◌-◌, ◌<◌}
+use mathlib.Core.Path.{◌∙◌}
 use native.Mathlib.Omega.{arith}
-use lib.IntN.{pos}
-use lib.ListN.{set, replicate}
 use mir.Syntax.{w16}
-use mir.Val.{to_z}
 use mir.Facts.{to_z-of_z}
 use Rattle.laws.specs.Loops.{steps, steps_none, steps_turn, ended_from}
-use Rattle.laws.specs.Back.{came, via}
+use Rattle.laws.specs.Back.{via}
 use Rattle.fixed.specs.Fixed.{position, pulse, codevector}
 use Rattle.fixed.specs.Laws.{position_lt, codevector_is}
 use Rattle.std.proofs.Common.{rules}

@@ -1,16 +1,10 @@
 -- `fixed::codevector` meets its contract: before turn k the first k pulses are set. Assumes nothing.
-use Prim.Native.Nat.{◌-◌, ◌≤◌, ◌<◌}
-use mathlib.Core.Path.{◌≡◌, ◌∙◌}
-use native.Mathlib.Omega.{arith}
+use Prim.Native.Nat.{◌-◌, ◌≤◌}
+use mathlib.Core.Path.{◌≡◌}
 use lib.IntN.{pos}
 use lib.ListN.{set, replicate}
-use mir.Syntax.{w16}
-use mir.Val.{to_z}
-use mir.Facts.{to_z-of_z}
-use Rattle.laws.specs.Loops.{steps, steps_none, steps_turn, ended_from}
-use Rattle.laws.specs.Back.{came, via}
-use Rattle.fixed.specs.Fixed.{position, pulse, codevector}
-use Rattle.fixed.specs.Laws.{position_lt, codevector_is}
+use Rattle.laws.specs.Loops.{steps}
+use Rattle.fixed.specs.Fixed.{position, pulse}
 use Rattle.fixed.proofs.codevector.Given as goal
 
 abbrev pub invariant-loop-k : goal.invariant-loop-k

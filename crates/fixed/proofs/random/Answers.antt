@@ -3,7 +3,7 @@ use mathlib.Core.Path.{◌∙◌}
 use lib.Dec.{lit<}
 use mir.Syntax.{w16, w32}
 use mir.Facts.{to_z-of_z}
-use Rattle.laws.specs.Back.{came, via, widens, wide, still}
+use Rattle.laws.specs.Back.{via, widens, wide, still}
 use Rattle.fixed.specs.Fixed.{random}
 use Rattle.fixed.specs.Laws.{fits_product, fits_next}
 use Rattle.fixed.proofs.random.Goals as goal

@@ -1,7 +1,7 @@
 -- `fixed::random_index` meets its contract. Assumes nothing.
 use mir.Syntax.{w16}
 use mir.Facts.{to_z-of_z}
-use Rattle.laws.specs.Back.{came, via}
+use Rattle.laws.specs.Back.{via}
 use Rattle.fixed.specs.Fixed.{random_index}
 use Rattle.fixed.proofs.random_index.Goals as goal
 

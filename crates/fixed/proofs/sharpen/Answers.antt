@@ -5,7 +5,7 @@ use lib.Signed.{nat_abs-le}
 use mir.Syntax.{w16}
 use mir.Val.{to_z, of_z}
 use mir.Facts.{to_z-of_z}
-use Rattle.laws.specs.Back.{came, via}
+use Rattle.laws.specs.Back.{via}
 use Rattle.fixed.specs.Laws.{sharpen_none, positive}
 use Rattle.fixed.proofs.Laws.{sharpen_is, sharpen_far}
 use Rattle.fixed.proofs.sharpen.Goals as goal

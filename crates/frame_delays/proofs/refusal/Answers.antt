@@ -1,7 +1,6 @@
 -- `frame_delays::refusal` meets its contract: the range of the carried delay is tested first.
 use mathlib.Core.Path.{sym, ◌∙◌}
 use mir.Facts.{to_z-of_z}
-use borrow.Author.Tests.{not-true, not-false}
 use Rattle.decoder.specs.Call.{first_of}
 use Rattle.frame_delays.specs.Delays.{refusal}
 use Rattle.frame_delays.proofs.refusal.Goals as goal

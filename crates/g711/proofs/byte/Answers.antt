@@ -1,5 +1,4 @@
 -- `g711::byte` meets its contract.
-use mathlib.Core.Path.{◌∙◌}
 use mir.Facts.{to_z-of_z}
 use Rattle.g711.specs.Fast.{found_byte}
 use Rattle.g711.proofs.byte.Goals as goal

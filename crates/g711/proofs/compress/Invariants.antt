@@ -1,14 +1,9 @@
 -- `g711::compress` meets its contract: before turn i the first i bytes are written.
 use Prim.Native.Nat.{◌-◌, ◌≤◌}
-use mathlib.Core.Path.{◌≡◌, refl, ◌∙◌, ap, sym}
+use mathlib.Core.Path.{◌≡◌}
 use mathlib.Core.List.{map}
-use native.Mathlib.Omega.{arith}
-use lib.IntN.{pos}
-use lib.ListN.{length, length-set}
+use lib.ListN.{length}
 use lib.Seq.{paste}
-use mir.Syntax.{w16}
-use Rattle.laws.specs.Back.{via}
-use Rattle.laws.specs.Lists.{map_none, map_turn, map_end}
 use Rattle.g711.specs.Fast.{found_byte}
 use Rattle.g711.proofs.compress.Given as goal
 

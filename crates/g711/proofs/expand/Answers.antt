@@ -1,10 +1,8 @@
 -- The answers of `g711::expand`.
-use Prim.Native.Nat.{ℕ, ◌-◌, ◌≤◌}
-use mathlib.Core.Path.{◌≡◌, refl, ◌∙◌, sym}
-use mathlib.Core.List.{map}
+use Prim.Native.Nat.{ℕ, ◌-◌}
+use mathlib.Core.Path.{refl, ◌∙◌}
 use native.Mathlib.Omega.{arith}
-use lib.ListN.{length, length-set}
-use lib.Seq.{paste}
+use lib.ListN.{length-set}
 use mir.Syntax.{w16}
 use Rattle.laws.specs.Back.{via}
 use Rattle.laws.specs.Lists.{at, map_none, map_turn, map_end}

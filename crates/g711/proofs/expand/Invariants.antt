@@ -1,14 +1,10 @@
 -- `g711::expand` meets its contract: before turn i the first i samples are written.
-use Prim.Native.Nat.{ℕ, ◌-◌, ◌≤◌}
-use mathlib.Core.Path.{◌≡◌, refl, ◌∙◌, sym}
+use Prim.Native.Nat.{◌-◌, ◌≤◌}
+use mathlib.Core.Path.{◌≡◌}
 use mathlib.Core.List.{map}
-use native.Mathlib.Omega.{arith}
-use lib.ListN.{length, length-set}
+use lib.ListN.{length}
 use lib.Seq.{paste}
-use mir.Syntax.{w16}
-use Rattle.laws.specs.Back.{via}
-use Rattle.laws.specs.Lists.{at, map_none, map_turn, map_end}
-use Rattle.g711.specs.Laws.{met}
+use Rattle.laws.specs.Lists.{at}
 use Rattle.g711.proofs.expand.Given as goal
 
 abbrev pub invariant-loop-i : goal.invariant-loop-i

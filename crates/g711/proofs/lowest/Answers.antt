@@ -1,6 +1,5 @@
 -- `g711::lowest` meets its contract.
 use mathlib.Core.Path.{refl}
-use native.Mathlib.Omega.{arith}
 use lib.Bits.{and_le_l}
 use Rattle.g711.specs.Fast.{lowest}
 use Rattle.g711.proofs.lowest.Goals as goal

@@ -1,6 +1,5 @@
 -- `g711::refusal` meets its contract: each test picks its case.
 use mathlib.Core.Path.{sym, ◌∙◌}
-use lib.Dec.{eqb}
 use borrow.Author.Tests.{eq-eqb, ne_eqb}
 use Rattle.g711.specs.G711.{refusal}
 use Rattle.g711.proofs.refusal.Goals as goal

@@ -1,6 +1,5 @@
 -- `g711::write` meets its contract: every sample was looked at before the first byte is written.
-use mathlib.Core.Path.{◌≡◌, sym, ◌∙◌, ap}
-use Prim.Native.Nat.{◌≤◌}
+use mathlib.Core.Path.{sym, ◌∙◌}
 use Rattle.g711.specs.Laws.{taken, bias_le, write_refused}
 use Rattle.g711.proofs.Laws.{write_none, write_done}
 use Rattle.g711.proofs.write.Goals as goal

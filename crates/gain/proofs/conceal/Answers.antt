@@ -2,7 +2,7 @@
 use Prim.Native.Nat.{◌<◌}
 use lib.Signed.{mag}
 use mir.Syntax.{w16}
-use Rattle.laws.specs.Back.{came, via}
+use Rattle.laws.specs.Back.{via}
 use Rattle.gain.specs.Gain.{conceal}
 use Rattle.std.proofs.Common.{rules}
 use Rattle.gain.proofs.conceal.Goals as goal

@@ -1,6 +1,6 @@
 -- `gain::conceal_error` meets its contract. Assumes nothing.
 use mir.Syntax.{w16, w32}
-use Rattle.laws.specs.Back.{came, via}
+use Rattle.laws.specs.Back.{via}
 use Rattle.gain.specs.Gain.{conceal_error}
 use Rattle.gain.proofs.conceal_error.Goals as goal
 

@@ -1,7 +1,7 @@
 -- `gain::conceal_pitch_gain` meets its contract. Assumes nothing.
 use mir.Syntax.{w16}
 use mir.Facts.{to_z-of_z}
-use Rattle.laws.specs.Back.{came, via}
+use Rattle.laws.specs.Back.{via}
 use Rattle.gain.specs.Gain.{conceal_pitch_gain}
 use Rattle.gain.proofs.conceal_pitch_gain.Goals as goal
 

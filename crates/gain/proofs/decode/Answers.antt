@@ -1,6 +1,6 @@
 -- `gain::decode` meets its contract: the rows and the correction factor, read once, are those of both gains. Assumes nothing.
 use mir.Syntax.{w16, w32}
-use Rattle.laws.specs.Back.{came, via}
+use Rattle.laws.specs.Back.{via}
 use Rattle.gain.specs.Gain.{decode, gain_error, pitch_gain, fixed_gain, gamma}
 use Rattle.gain.proofs.decode.Goals as goal
 

@@ -1,12 +1,11 @@
 -- The answers of `gain::energy`.
-use Prim.Native.Nat.{◌-◌, ◌≤◌}
+use Prim.Native.Nat.{◌-◌}
 use mathlib.Core.Path.{◌∙◌}
 use native.Mathlib.Omega.{arith}
 use mir.Syntax.{w16, w32, w64}
-use mir.Val.{to_z}
 use mir.Facts.{to_z-of_z}
-use Rattle.laws.specs.Back.{came, via}
-use Rattle.gain.specs.Laws.{Squares, squares_none, squares_turn, squares_fit, squares_end, twice_fits, energy_is}
+use Rattle.laws.specs.Back.{via}
+use Rattle.gain.specs.Laws.{squares_none, squares_turn, squares_fit, squares_end, twice_fits, energy_is}
 use Rattle.std.proofs.Common.{rules}
 use Rattle.gain.proofs.energy.Goals as goal
 

@@ -1,15 +1,12 @@
 -- The answers of `gain::error_sum`.
-use Prim.Native.Nat.{◌-◌, ◌≤◌}
-use mathlib.Core.Path.{◌≡◌, ◌∙◌}
+use Prim.Native.Nat.{◌-◌}
+use mathlib.Core.Path.{◌∙◌}
 use native.Mathlib.Omega.{arith}
-use lib.IntN.{pos}
 use mir.Syntax.{w16, w32}
-use mir.Val.{to_z}
 use mir.Facts.{to_z-of_z}
 use Rattle.laws.specs.Lists.{at}
 use Rattle.laws.specs.Loops.{steps, steps_none, steps_turn, ended_from}
-use Rattle.laws.specs.Back.{came, via}
-use Rattle.basic_op.specs.Ops.{l_add}
+use Rattle.laws.specs.Back.{via}
 use Rattle.gain.specs.Gain.{error_sum}
 use Rattle.gain.specs.Laws.{fits_word}
 use Rattle.std.proofs.Common.{rules}

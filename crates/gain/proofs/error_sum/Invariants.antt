@@ -1,17 +1,10 @@
 -- `gain::error_sum` meets its contract: before turn k the sum is that of the first k errors. Assumes nothing.
 use Prim.Native.Nat.{◌-◌, ◌≤◌}
-use mathlib.Core.Path.{◌≡◌, ◌∙◌}
-use native.Mathlib.Omega.{arith}
+use mathlib.Core.Path.{◌≡◌}
 use lib.IntN.{pos}
-use mir.Syntax.{w16, w32}
-use mir.Val.{to_z}
-use mir.Facts.{to_z-of_z}
 use Rattle.laws.specs.Lists.{at}
-use Rattle.laws.specs.Loops.{steps, steps_none, steps_turn, ended_from}
-use Rattle.laws.specs.Back.{came, via}
+use Rattle.laws.specs.Loops.{steps}
 use Rattle.basic_op.specs.Ops.{l_add}
-use Rattle.gain.specs.Gain.{error_sum}
-use Rattle.gain.specs.Laws.{fits_word}
 use Rattle.gain.proofs.error_sum.Given as goal
 
 abbrev pub invariant-loop-k : goal.invariant-loop-k

@@ -3,7 +3,7 @@ use Prim.Native.Nat.{◌<◌}
 use lib.Signed.{mag}
 use mir.Syntax.{w16, w32}
 use mir.Facts.{to_z-of_z}
-use Rattle.laws.specs.Back.{came, via}
+use Rattle.laws.specs.Back.{via}
 use Rattle.std.proofs.Common.{rules}
 use Rattle.gain.proofs.gain_error.Goals as goal
 use Rattle.gain.proofs.gain_error.Goals.{After-base2_log-e}

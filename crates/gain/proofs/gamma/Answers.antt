@@ -1,7 +1,6 @@
 -- `gain::gamma` meets its contract. Assumes nothing.
 use mir.Syntax.{w16, w32}
-use mir.Facts.{}
-use Rattle.laws.specs.Back.{came, via, fits_came, fits_by, widens, wide}
+use Rattle.laws.specs.Back.{via, fits_by, widens, wide}
 use Rattle.gain.proofs.gamma.Goals as goal
 
 pub returns : goal.returns

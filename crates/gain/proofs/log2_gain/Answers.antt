@@ -1,6 +1,6 @@
 -- `gain::log2_gain` meets its contract. Assumes nothing.
 use mir.Syntax.{w16, w32}
-use Rattle.laws.specs.Back.{came, via}
+use Rattle.laws.specs.Back.{via}
 use Rattle.gain.specs.Gain.{log2_gain}
 use Rattle.gain.proofs.log2_gain.Goals as goal
 

@@ -2,7 +2,7 @@
 use Prim.Native.Nat.{◌<◌}
 use lib.Signed.{mag}
 use mir.Syntax.{w16, w32}
-use Rattle.laws.specs.Back.{came, via}
+use Rattle.laws.specs.Back.{via}
 use Rattle.gain.specs.Gain.{mean_and_energy}
 use Rattle.std.proofs.Common.{rules}
 use Rattle.gain.proofs.mean_and_energy.Goals as goal

@@ -1,6 +1,6 @@
 -- `gain::pitch_gain` meets its contract. Assumes nothing.
 use mir.Syntax.{w16}
-use Rattle.laws.specs.Back.{came, via}
+use Rattle.laws.specs.Back.{via}
 use Rattle.gain.proofs.pitch_gain.Goals as goal
 
 pub returns : goal.returns

@@ -2,7 +2,7 @@
 use Prim.Native.Nat.{◌<◌}
 use lib.Signed.{mag}
 use mir.Syntax.{w16, w32}
-use Rattle.laws.specs.Back.{came, via}
+use Rattle.laws.specs.Back.{via}
 use Rattle.gain.specs.Gain.{predict}
 use Rattle.std.proofs.Common.{rules}
 use Rattle.gain.proofs.predict.Goals as goal

@@ -1,11 +1,9 @@
 -- The answers of `gain::prediction`.
-use Prim.Native.Nat.{◌-◌, ◌≤◌}
-use mathlib.Core.Path.{◌≡◌, ◌∙◌}
+use Prim.Native.Nat.{◌-◌}
+use mathlib.Core.Path.{◌∙◌}
 use native.Mathlib.Omega.{arith}
 use mir.Syntax.{w16, w32}
-use mir.Val.{to_z}
 use mir.Facts.{to_z-of_z}
-use Rattle.laws.specs.Lists.{at}
 use Rattle.laws.specs.Loops.{steps, steps_none, steps_turn, ended_from}
 use Rattle.laws.specs.Back.{via2}
 use Rattle.basic_op.specs.Ops.{l_mac}

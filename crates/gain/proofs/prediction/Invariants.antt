@@ -1,15 +1,9 @@
 -- `gain::prediction` meets its contract: before turn k the sum has the first k terms. Assumes nothing.
 use Prim.Native.Nat.{◌-◌, ◌≤◌}
-use mathlib.Core.Path.{◌≡◌, ◌∙◌}
-use native.Mathlib.Omega.{arith}
-use mir.Syntax.{w16, w32}
-use mir.Val.{to_z}
-use mir.Facts.{to_z-of_z}
+use mathlib.Core.Path.{◌≡◌}
 use Rattle.laws.specs.Lists.{at}
-use Rattle.laws.specs.Loops.{steps, steps_none, steps_turn, ended_from}
-use Rattle.laws.specs.Back.{via2}
+use Rattle.laws.specs.Loops.{steps}
 use Rattle.basic_op.specs.Ops.{l_mac}
-use Rattle.gain.specs.Gain.{prediction}
 use Rattle.gain.proofs.prediction.Given as goal
 
 abbrev pub invariant-loop-k : goal.invariant-loop-k

@@ -1,6 +1,6 @@
 -- `gain::row_gb` meets its contract. Assumes nothing.
 use mir.Syntax.{w16}
-use Rattle.laws.specs.Back.{came, via}
+use Rattle.laws.specs.Back.{via}
 use Rattle.gain.specs.Gain.{row_gb}
 use Rattle.gain.proofs.row_gb.Goals as goal
 

@@ -1,7 +1,7 @@
 -- `gain::sharpening` meets its contract. Assumes nothing.
 use mir.Syntax.{w16}
 use mir.Facts.{to_z-of_z}
-use Rattle.laws.specs.Back.{came, via}
+use Rattle.laws.specs.Back.{via}
 use Rattle.gain.specs.Gain.{sharpening}
 use Rattle.gain.proofs.sharpening.Goals as goal
 

@@ -1,15 +1,10 @@
 -- `inverse::frame_words` meets its contract: the first k words are read off.
 use Prim.Native.Nat.{◌-◌, ◌≤◌}
-use mathlib.Core.Path.{◌≡◌, refl, sym, ap, ◌∙◌}
-use mathlib.Core.Logic.{⊎_elim}
-use native.Mathlib.Omega.{arith}
+use mathlib.Core.Path.{◌≡◌}
 use lib.IntN.{pos}
 use lib.ListN.{replicate}
-use mir.Syntax.{w16}
-use mir.Val.{to_z}
-use Rattle.laws.specs.Lists.{filled, filled_none, fill, filled_end}
-use Rattle.laws.specs.Back.{came, via}
-use Rattle.inverse.proofs.Parts.{frame_word, first_word, second_word, all_words}
+use Rattle.laws.specs.Lists.{filled}
+use Rattle.inverse.proofs.Parts.{frame_word}
 use Rattle.inverse.proofs.frame_words.Given as goal
 
 abbrev pub invariant-loop-k : goal.invariant-loop-k

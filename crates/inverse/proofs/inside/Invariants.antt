@@ -1,12 +1,6 @@
 -- `inverse::inside` meets its contract: the first k samples are tested.
 use Prim.Native.Nat.{◌-◌, ◌≤◌}
-use mathlib.Core.Path.{◌≡◌, ◌∙◌}
-use mathlib.Core.Logic.{⊎_elim}
-use native.Mathlib.Omega.{arith}
-use mir.Syntax.{w16}
-use Rattle.laws.specs.Lists.{at}
-use Rattle.laws.specs.Back.{via}
-use Rattle.laws.specs.Loops.{nowhere_none, nowhere_hit, nowhere_miss, ended}
+use mathlib.Core.Path.{◌≡◌}
 use Rattle.inverse.specs.Inverse.{inside}
 use Rattle.inverse.proofs.inside.Given as goal
 

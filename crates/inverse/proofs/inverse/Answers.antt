@@ -8,7 +8,7 @@ use mir.Syntax.{w16, w64}
 use mir.Val.{to_z, of_z}
 use mir.Facts.{to_z-of_z}
 use Rattle.laws.specs.Lists.{at}
-use Rattle.laws.specs.Back.{via, came}
+use Rattle.laws.specs.Back.{via}
 use Rattle.laws.specs.Range.{mag_sub, mag_shr_less}
 use Rattle.basic_op.specs.Ops.{sat16}
 use Rattle.inverse.specs.Inverse.{past_sum, inverse, word}

@@ -1,5 +1,5 @@
 -- The answers of `inverse::past_sum`.
-use Prim.Native.Nat.{◌+◌, ◌-◌, ◌*◌, ◌≤◌, ◌<◌}
+use Prim.Native.Nat.{◌+◌, ◌-◌, ◌*◌, ◌<◌}
 use mathlib.Core.Path.{◌≡◌, refl, ◌∙◌}
 use native.Mathlib.Omega.{arith}
 use lib.IntN.{pos, ◌-ℤ◌}
@@ -11,7 +11,7 @@ use Rattle.laws.specs.Lists.{at}
 use Rattle.laws.specs.Loops.{steps, steps_turn, ended}
 use Rattle.laws.specs.Sums.{without}
 use Rattle.laws.specs.Range.{mag_sub}
-use Rattle.laws.specs.Back.{via, came}
+use Rattle.laws.specs.Back.{via}
 use Rattle.synth_filter.specs.Fast.{term}
 use Rattle.inverse.specs.Inverse.{past_sum}
 use Rattle.std.proofs.Common.{rules}

@@ -1,19 +1,11 @@
 -- `inverse::past_sum` meets its contract: before turn i the products of i samples are taken off.
 use Prim.Native.Nat.{◌+◌, ◌-◌, ◌*◌, ◌≤◌, ◌<◌}
-use mathlib.Core.Path.{◌≡◌, refl, ◌∙◌}
-use native.Mathlib.Omega.{arith}
-use lib.IntN.{pos, ◌-ℤ◌}
+use mathlib.Core.Path.{◌≡◌}
+use lib.IntN.{pos}
 use lib.Signed.{mag}
-use mir.Syntax.{w16, w64}
-use mir.Val.{to_z, of_z}
-use mir.Facts.{to_z-of_z}
 use Rattle.laws.specs.Lists.{at}
-use Rattle.laws.specs.Loops.{steps, steps_turn, ended}
 use Rattle.laws.specs.Sums.{without}
-use Rattle.laws.specs.Range.{mag_sub}
-use Rattle.laws.specs.Back.{via, came}
 use Rattle.synth_filter.specs.Fast.{term}
-use Rattle.inverse.specs.Inverse.{past_sum}
 use Rattle.inverse.proofs.past_sum.Given as goal
 
 abbrev pub invariant-loop-i : goal.invariant-loop-i

@@ -1,6 +1,5 @@
 -- `job::check` meets its contract: each test decides a part of it.
 use Rattle.std.proofs.Common.{sym, ◌∙◌, rules}
-use borrow.Author.Tests.{not-true, not-false}
 use Rattle.job.specs.Laws.{check_length, check_sum, check_known, check_fits, check_tables, check_state, block_is}
 use Rattle.std.proofs.Common.{rules}
 use Rattle.job.proofs.check.Goals as goal

@@ -1,5 +1,5 @@
 -- `job::counts` meets its contract.
-use Rattle.std.proofs.Common.{refl, ◌∙◌, rules}
+use Rattle.std.proofs.Common.{refl, ◌∙◌}
 use Rattle.job.specs.Job.{count_widths, counts}
 use Rattle.words.specs.Laws.{read_whole}
 use Rattle.job.proofs.counts.Goals as goal

@@ -1,5 +1,5 @@
 -- `job::fields` meets its contract.
-use Rattle.std.proofs.Common.{refl, ◌∙◌, rules}
+use Rattle.std.proofs.Common.{refl, ◌∙◌}
 use Rattle.job.specs.Job.{widths, fields}
 use Rattle.words.specs.Laws.{read_whole}
 use Rattle.job.proofs.fields.Goals as goal

@@ -1,5 +1,4 @@
 -- `job::fits` meets its contract: the tests are those of the definition.
-use Rattle.std.proofs.Common.{rules}
 use Rattle.job.specs.Job.{fits}
 use Rattle.job.proofs.fits.Goals as goal
 

@@ -1,5 +1,4 @@
 -- `job::known` meets its contract.
-use Rattle.std.proofs.Common.{rules}
 use Rattle.job.specs.Job.{known}
 use Rattle.job.proofs.known.Goals as goal
 

@@ -1,5 +1,4 @@
 -- `job::place` meets its contract: each field of its width.
-use Rattle.std.proofs.Common.{rules}
 use Rattle.job.specs.Job.{widths, fields, place}
 use Rattle.words.specs.Laws.{numbers_lt}
 use Rattle.job.proofs.place.Goals as goal

@@ -1,5 +1,5 @@
 -- `job::put_head` meets its contract: the rows of the head, one behind another.
-use Rattle.std.proofs.Common.{refl, arith, rules}
+use Rattle.std.proofs.Common.{refl, arith}
 use Rattle.words.specs.Laws.{total}
 use Rattle.job.specs.Job.{state_at, widths, head}
 use Rattle.job.specs.Laws.{front_numbers}

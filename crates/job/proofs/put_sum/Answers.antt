@@ -1,5 +1,4 @@
 -- `job::put_sum` meets its contract.
-use Rattle.std.proofs.Common.{rules}
 use Rattle.job.specs.Laws.{front_sum}
 use Rattle.job.proofs.put_sum.Goals as goal
 

@@ -1,5 +1,4 @@
 -- `job::start` meets its contract.
-use Rattle.std.proofs.Common.{rules}
 use Rattle.job.specs.Job.{start}
 use Rattle.job.proofs.start.Goals as goal
 

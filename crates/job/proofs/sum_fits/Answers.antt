@@ -1,5 +1,4 @@
 -- `job::sum_fits` meets its contract.
-use Rattle.std.proofs.Common.{rules}
 use Rattle.job.specs.Laws.{sum_is}
 use Rattle.job.proofs.sum_fits.Goals as goal
 

@@ -1,6 +1,7 @@
 -- `leg::step` meets its contract: what `g711::write` answers of the samples that the line has.
 use native.Mathlib.Omega.{arith}
-use Rattle.leg.specs.Laws.{found_few, found_fits, bytes_told, bytes_none, bytes_done}
+use Rattle.leg.specs.Laws.{found_few, found_fits, bytes_none, bytes_done}
+use Rattle.leg.proofs.Laws.{bytes_told}
 use Rattle.leg.proofs.step.Goals as goal
 
 pub slice_bounds-write-end : goal.slice_bounds-write-end

@@ -1,11 +1,8 @@
 -- The answers of `leg_frame::leading`.
-use mathlib.Core.Path.{◌≡◌, sym, ◌∙◌}
-use Prim.Native.Nat.{◌+◌, ◌-◌, ◌≤◌}
+use mathlib.Core.Path.{sym, ◌∙◌}
+use Prim.Native.Nat.{◌-◌}
 use native.Mathlib.Nat.{zero-add}
 use native.Mathlib.Omega.{arith}
-use lib.ListN.{length, drop}
-use borrow.Author.Tests.{not-true, not-false}
-use Rattle.leg_frame.specs.LegFrame.{leading}
 use Rattle.leg_frame.specs.Laws.{leading_stops, leading_goes, leading_ends}
 use Rattle.std.proofs.Common.{rules}
 use Rattle.leg_frame.proofs.leading.Goals as goal

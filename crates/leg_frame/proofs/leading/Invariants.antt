@@ -1,12 +1,8 @@
 -- `leg_frame::leading` meets its contract: before turn i the first i bytes are digits.
-use mathlib.Core.Path.{◌≡◌, sym, ◌∙◌}
+use mathlib.Core.Path.{◌≡◌}
 use Prim.Native.Nat.{◌+◌, ◌-◌, ◌≤◌}
-use native.Mathlib.Nat.{zero-add}
-use native.Mathlib.Omega.{arith}
 use lib.ListN.{length, drop}
-use borrow.Author.Tests.{not-true, not-false}
 use Rattle.leg_frame.specs.LegFrame.{leading}
-use Rattle.leg_frame.specs.Laws.{leading_stops, leading_goes, leading_ends}
 use Rattle.leg_frame.proofs.leading.Given as goal
 
 abbrev pub invariant-loop-i : goal.invariant-loop-i

@@ -1,5 +1,5 @@
 -- `leg_frame::of_frames` meets its contract: the parts that are put make up the opening of the total.
-use borrow.Author.Tests.{ne_eqb, not-true, not-false}
+use borrow.Author.Tests.{ne_eqb}
 use Rattle.text.specs.Laws.{then}
 use Rattle.leg_frame.specs.LegFrame.{opening, of_frames}
 use Rattle.leg_frame.specs.Laws.{no_frames, opening_fits, frames}

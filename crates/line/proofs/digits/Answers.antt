@@ -1,11 +1,10 @@
 -- The answers of `line::digits`.
 use mathlib.Core.Path.{◌≡◌, sym, ◌∙◌}
 use mathlib.Core.Bool.{true}
-use Prim.Native.Nat.{◌-◌, ◌≤◌}
+use Prim.Native.Nat.{◌-◌}
 use native.Mathlib.Omega.{arith}
-use lib.ListN.{take, drop}
-use borrow.Author.Tests.{not-true, not-false}
-use Rattle.line.specs.Laws.{all_digits, digit_more, digit_not, none_digits}
+use lib.ListN.{drop}
+use Rattle.line.specs.Laws.{digit_more, digit_not, none_digits}
 use Rattle.std.proofs.Common.{rules}
 use Rattle.line.proofs.digits.Goals as goal
 

@@ -1,11 +1,9 @@
 -- `line::digits` meets its contract: the bytes passed are digits.
-use mathlib.Core.Path.{◌≡◌, sym, ◌∙◌}
+use mathlib.Core.Path.{◌≡◌}
 use mathlib.Core.Bool.{true}
 use Prim.Native.Nat.{◌-◌, ◌≤◌}
-use native.Mathlib.Omega.{arith}
 use lib.ListN.{take, drop}
-use borrow.Author.Tests.{not-true, not-false}
-use Rattle.line.specs.Laws.{all_digits, digit_more, digit_not, none_digits}
+use Rattle.line.specs.Laws.{all_digits}
 use Rattle.line.proofs.digits.Given as goal
 
 abbrev pub invariant-loop-i : goal.invariant-loop-i

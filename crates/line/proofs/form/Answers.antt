@@ -1,7 +1,6 @@
 -- `line::form` meets its contract: the opening, the digits and the closing are tested one by one.
 use mathlib.Core.Path.{sym}
 use native.Mathlib.Omega.{arith}
-use borrow.Author.Tests.{not-true, not-false}
 use Rattle.line.specs.Laws.{other_length, no_opening, no_digits, ending}
 use Rattle.line.proofs.form.Goals as goal
 

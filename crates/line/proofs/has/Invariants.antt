@@ -1,9 +1,7 @@
 -- `line::has` meets its contract: the bytes passed are the same.
-use mathlib.Core.Path.{◌≡◌, refl, sym}
+use mathlib.Core.Path.{◌≡◌}
 use Prim.Native.Nat.{◌-◌, ◌≤◌}
-use native.Mathlib.Omega.{arith}
 use lib.ListN.{length, take, drop}
-use Rattle.laws.specs.Bytes.{match_more, match_not, match_end}
 use Rattle.line.proofs.has.Given as goal
 
 abbrev pub invariant-loop-i : goal.invariant-loop-i

@@ -1,12 +1,10 @@
 -- The answers of `line::put_bytes`.
 use mathlib.Core.Path.{◌≡◌}
-use Prim.Native.Nat.{◌-◌, ◌≤◌}
+use Prim.Native.Nat.{◌-◌}
 use native.Mathlib.Omega.{arith}
-use lib.ListN.{length, take}
+use lib.ListN.{length}
 use lib.Seq.{take-length}
-use Rattle.text.specs.Text.{Put}
 use Rattle.text.specs.Laws.{kept}
-use Rattle.line.specs.Line.{hex}
 use Rattle.line.specs.Laws.{hex_none, hex_more, length_hex_take}
 use Rattle.std.proofs.Common.{rules}
 use Rattle.line.proofs.put_bytes.Goals as goal

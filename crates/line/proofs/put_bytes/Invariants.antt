@@ -1,13 +1,8 @@
 -- `line::put_bytes` meets its contract: behind the place are the digits of the bytes passed.
-use mathlib.Core.Path.{◌≡◌}
 use Prim.Native.Nat.{◌-◌, ◌≤◌}
-use native.Mathlib.Omega.{arith}
 use lib.ListN.{length, take}
-use lib.Seq.{take-length}
 use Rattle.text.specs.Text.{Put}
-use Rattle.text.specs.Laws.{kept}
 use Rattle.line.specs.Line.{hex}
-use Rattle.line.specs.Laws.{hex_none, hex_more, length_hex_take}
 use Rattle.line.proofs.put_bytes.Given as goal
 
 abbrev pub invariant-loop-i : goal.invariant-loop-i

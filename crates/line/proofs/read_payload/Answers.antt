@@ -1,10 +1,8 @@
 -- The answers of `line::read_payload`.
 use mathlib.Core.Path.{◌≡◌, refl}
-use mathlib.Core.List.{◌++◌}
-use Prim.Native.Nat.{◌-◌, ◌≤◌}
+use Prim.Native.Nat.{◌-◌}
 use native.Mathlib.Omega.{arith}
-use lib.ListN.{length, drop, length-set}
-use Rattle.line.specs.Line.{bytes}
+use lib.ListN.{drop, length-set}
 use Rattle.line.specs.Laws.{put_none, put_more, paired}
 use Rattle.std.proofs.Common.{rules}
 use Rattle.line.proofs.read_payload.Goals as goal

@@ -1,11 +1,9 @@
 -- `line::read_payload` meets its contract: the bytes written are those of the digits passed, and those behind them are unchanged.
-use mathlib.Core.Path.{◌≡◌, refl}
+use mathlib.Core.Path.{◌≡◌}
 use mathlib.Core.List.{◌++◌}
 use Prim.Native.Nat.{◌-◌, ◌≤◌}
-use native.Mathlib.Omega.{arith}
-use lib.ListN.{length, drop, length-set}
+use lib.ListN.{length, drop}
 use Rattle.line.specs.Line.{bytes}
-use Rattle.line.specs.Laws.{put_none, put_more, paired}
 use Rattle.line.proofs.read_payload.Given as goal
 
 abbrev pub invariant-loop-i : goal.invariant-loop-i

@@ -1,7 +1,7 @@
 -- `line::write` meets its contract: each test picks its case of the definition.
 use mathlib.Core.Path.{sym, ◌∙◌}
 use native.Mathlib.Nat.{zero-add}
-use borrow.Author.Tests.{not-true, not-false, eq-eqb, ne_eqb}
+use borrow.Author.Tests.{eq-eqb, ne_eqb}
 use Rattle.kind.specs.Laws.{known_low}
 use Rattle.line.specs.Write.{write}
 use Rattle.line.proofs.write.Goals as goal

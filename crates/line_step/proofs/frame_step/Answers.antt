@@ -7,8 +7,11 @@ use Rattle.line_step.proofs.frame_step.Goals as goal
 pub returns-in-Refused : goal.returns-in-Refused
 returns-in-Refused c =
     let s = c.args in
-    record { out_after = rw (not_counted s.t.now (kept s.b.now s.from) s.kind s.payload.now (rw c.frame_rules.ensures at c.count-answer.ensures) c.in-Refused.is)
-          (stop_given s.b.now s.from _ s.out.now c.stopped.ensures.0 c.stopped.ensures.1); written_le_frame_room = omega (arith, c.stopped.ensures.1) }
+    record {
+      out_after = rw (not_counted s.t.now (kept s.b.now s.from) s.kind s.payload.now (rw c.frame_rules.ensures at c.count-answer.ensures) c.in-Refused.is)
+          (stop_given s.b.now s.from _ s.out.now c.stopped.ensures.0 c.stopped.ensures.1);
+      written_le_frame_room = omega (arith, c.stopped.ensures.1);
+    }
 
 pub returns-in-Done : goal.returns-in-Done
 returns-in-Done c =

@@ -8,8 +8,11 @@ use Rattle.line_step.proofs.line_step.Goals as goal
 pub returns-in-Refused : goal.returns-in-Refused
 returns-in-Refused c =
     let s = c.args in
-    record { out_after = rw (not_line s.t.now (kept s.b.now s.from) s.text.now c.in-Refused.is c.line-answer.ensures)
-          (stop_given s.b.now s.from _ s.out.now c.stopped.ensures.0 c.stopped.ensures.1); written_le_frame_room = omega (arith, c.stopped.ensures.1) }
+    record {
+      out_after = rw (not_line s.t.now (kept s.b.now s.from) s.text.now c.in-Refused.is c.line-answer.ensures)
+          (stop_given s.b.now s.from _ s.out.now c.stopped.ensures.0 c.stopped.ensures.1);
+      written_le_frame_room = omega (arith, c.stopped.ensures.1);
+    }
 
 pub slice_bounds-frame_step-end : goal.slice_bounds-frame_step-end
 slice_bounds-frame_step-end c =

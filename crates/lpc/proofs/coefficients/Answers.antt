@@ -1,6 +1,6 @@
 -- `lpc::coefficients` meets its contract: a word at a time. Assumes nothing.
 use mir.Syntax.{w16}
-use Rattle.laws.specs.Back.{came, via}
+use Rattle.laws.specs.Back.{via}
 use Rattle.laws.specs.Lists.{tab}
 use Rattle.lpc.specs.Lpc.{coefficient}
 use Rattle.lpc.proofs.coefficients.Goals as goal

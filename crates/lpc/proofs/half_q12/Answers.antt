@@ -1,7 +1,7 @@
 -- `lpc::half_q12` meets its contract: a rounded shift and its lower 16 bits. Assumes nothing.
 use mir.Syntax.{w16, w32}
 use mir.Facts.{to_z-of_z}
-use Rattle.laws.specs.Back.{came, via}
+use Rattle.laws.specs.Back.{via}
 use Rattle.lpc.specs.Lpc.{half_q12}
 use Rattle.lpc.proofs.half_q12.Goals as goal
 

@@ -1,6 +1,6 @@
 -- `lpc::half_sum` meets its contract: equation (26) on what equation (25) gives. Assumes nothing.
 use mir.Syntax.{w16, w32}
-use Rattle.laws.specs.Back.{came, via}
+use Rattle.laws.specs.Back.{via}
 use Rattle.lpc.proofs.half_sum.Goals as goal
 
 pub returns : goal.returns

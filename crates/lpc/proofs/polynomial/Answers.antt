@@ -7,7 +7,7 @@ use lib.Signed.{mag}
 use mir.Syntax.{w32}
 use mir.Val.{to_z, of_z}
 use mir.Facts.{to_z-of_z}
-use Rattle.laws.specs.Back.{came, via}
+use Rattle.laws.specs.Back.{via}
 use Rattle.lpc.specs.Laws.{five_stages}
 use Rattle.lpc.proofs.polynomial.Goals as goal
 use Rattle.lpc.proofs.polynomial.Goals.{After-small_step-b1, After-small_step-c1, After-small_step-c2, After-small_step-d1, After-small_step-d2, After-small_step-d3, After-small_top-a1, After-small_top-b2, After-small_top-c3, After-small_top-d4}

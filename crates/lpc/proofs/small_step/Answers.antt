@@ -5,7 +5,7 @@ use lib.IntN.{pos, ◌-ℤ◌, ◌*ℤ◌}
 use mir.Syntax.{w32, w64}
 use mir.Val.{to_z, of_z}
 use mir.Facts.{to_z-of_z}
-use Rattle.laws.specs.Back.{came, via, widens, wide}
+use Rattle.laws.specs.Back.{via, widens, wide}
 use Rattle.basic_op.specs.Oper32b.{multiply_32_by_16}
 use Rattle.lpc.specs.Small.{step_less, step_small, step_plain}
 use Rattle.lpc.proofs.small_step.Goals as goal

@@ -7,7 +7,7 @@ use mir.Syntax.{w32, w64}
 use mir.Val.{to_z, of_z}
 use mir.Facts.{to_z-of_z}
 use Rattle.laws.specs.Range.{fits_scale}
-use Rattle.laws.specs.Back.{came, via, widens, wide, still}
+use Rattle.laws.specs.Back.{via, widens, wide, still}
 use Rattle.basic_op.specs.Oper32b.{multiply_32_by_16}
 use Rattle.lpc.specs.Small.{top_small, top_plain}
 use Rattle.lpc.proofs.small_top.Goals as goal

@@ -1,7 +1,7 @@
 -- `lpc::step` meets its contract: operators in a row, after the doubled product. Assumes nothing.
 use mir.Syntax.{w32, w64}
 use mir.Facts.{to_z-of_z}
-use Rattle.laws.specs.Back.{came, via}
+use Rattle.laws.specs.Back.{via}
 use Rattle.basic_op.specs.Oper32b.{multiply_32_by_16}
 use Rattle.lpc.specs.Lpc.{step}
 use Rattle.lpc.specs.Small.{twice}

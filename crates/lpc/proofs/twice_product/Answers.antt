@@ -6,7 +6,7 @@ use mir.Syntax.{w16, w32, w64}
 use mir.Val.{to_z, of_z}
 use mir.Facts.{to_z-of_z}
 use Rattle.laws.specs.Range.{fits_mul}
-use Rattle.laws.specs.Back.{came, via, fits_came, fits_by, widens, wide, still}
+use Rattle.laws.specs.Back.{via, fits_by, widens, wide, still}
 use Rattle.basic_op.specs.Oper32b.{multiply_32_by_16}
 use Rattle.lpc.specs.Small.{four, twice_small}
 use Rattle.lpc.proofs.twice_product.Goals as goal

@@ -4,7 +4,7 @@ use Prim.Native.Nat.{◌%◌}
 use mir.Syntax.{w16, w32}
 use mir.Facts.{to_z-of_z}
 use mir.ValLaws.{to_z_pos}
-use Rattle.laws.specs.Back.{came, via}
+use Rattle.laws.specs.Back.{via}
 use Rattle.lsp.specs.Lsp.{cosine}
 use native.Mathlib.Omega.{arith}
 use Rattle.lsp.proofs.cosine.Goals as goal

@@ -1,12 +1,9 @@
 -- The answers of `lsp::cosines`.
-use mathlib.Core.Path.{◌≡◌, refl, ◌∙◌}
-use Prim.Native.Nat.{◌-◌, ◌≤◌}
-use lib.IntN.{pos}
-use lib.ListN.{replicate}
+use mathlib.Core.Path.{refl, ◌∙◌}
+use Prim.Native.Nat.{◌-◌}
 use mir.Syntax.{w16}
-use mir.Val.{to_z}
 use mir.Facts.{to_z-of_z}
-use Rattle.laws.specs.Lists.{at, filled, filled_none, fill, filled_end}
+use Rattle.laws.specs.Lists.{at, filled_none, fill, filled_end}
 use Rattle.laws.specs.Back.{via, via1}
 use Rattle.basic_op.specs.Ops.{mult}
 use Rattle.lsp.specs.Lsp.{cosine, lsf_to_lsp}
@@ -15,13 +12,12 @@ use Rattle.std.proofs.Common.{rules}
 use Rattle.lsp.proofs.cosines.Goals as goal
 
 pub loop-i-preserved : goal.loop-i-preserved
-loop-i-preserved c =
-    (
-      search rules,
-      fill _ _ _ _ _ (search rules) c.loop-i.invariant.1
-          (via1 w16 w16 cosine c.mult.result c.cosine.result c.mult.type_inv c.cosine.type_inv c.cosine.ensures
-          ∙ rw (c.mult.ensures, via w16 (at c.args.lsf c.loop-i.i) c.mult-arg-1.given)),
-    )
+loop-i-preserved c = (
+  search rules,
+  fill _ _ _ _ _ (search rules) c.loop-i.invariant.1
+      (via1 w16 w16 cosine c.mult.result c.cosine.result c.mult.type_inv c.cosine.type_inv c.cosine.ensures
+      ∙ rw (c.mult.ensures, via w16 (at c.args.lsf c.loop-i.i) c.mult-arg-1.given)),
+)
 
 pub returns : goal.returns
 unfolding lsf_to_lsp

@@ -1,16 +1,11 @@
 -- `lsp::cosines` meets its contract: the first i words are set.
-use mathlib.Core.Path.{◌≡◌, refl, ◌∙◌}
+use mathlib.Core.Path.{◌≡◌}
 use Prim.Native.Nat.{◌-◌, ◌≤◌}
 use lib.IntN.{pos}
 use lib.ListN.{replicate}
-use mir.Syntax.{w16}
-use mir.Val.{to_z}
-use mir.Facts.{to_z-of_z}
-use Rattle.laws.specs.Lists.{at, filled, filled_none, fill, filled_end}
-use Rattle.laws.specs.Back.{via, via1}
+use Rattle.laws.specs.Lists.{at, filled}
 use Rattle.basic_op.specs.Ops.{mult}
-use Rattle.lsp.specs.Lsp.{cosine, lsf_to_lsp}
-use native.Mathlib.Omega.{arith}
+use Rattle.lsp.specs.Lsp.{cosine}
 use Rattle.lsp.proofs.cosines.Given as goal
 
 abbrev pub invariant-loop-i : goal.invariant-loop-i

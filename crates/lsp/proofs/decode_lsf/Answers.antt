@@ -1,7 +1,7 @@
 -- `lsp::decode_lsf` meets its contract: the prediction within its bounds.
 use mathlib.Core.Path.{◌∙◌}
 use mir.Syntax.{w16}
-use Rattle.laws.specs.Back.{came, via}
+use Rattle.laws.specs.Back.{via}
 use Rattle.lsp.specs.Lsp.{decode_lsf}
 use Rattle.lsp.proofs.decode_lsf.Goals as goal
 

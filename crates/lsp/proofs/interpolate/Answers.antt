@@ -1,11 +1,9 @@
 -- The answers of `lsp::interpolate`.
-use mathlib.Core.Path.{◌≡◌, refl}
-use Prim.Native.Nat.{◌-◌, ◌≤◌}
-use lib.IntN.{pos}
-use lib.ListN.{replicate}
+use mathlib.Core.Path.{refl}
+use Prim.Native.Nat.{◌-◌}
 use lib.Signed.{shr_z}
 use mir.Syntax.{w16}
-use Rattle.laws.specs.Lists.{at, filled, filled_none, fill, filled_end}
+use Rattle.laws.specs.Lists.{at, filled_none, fill, filled_end}
 use Rattle.laws.specs.Back.{via2}
 use Rattle.basic_op.specs.Ops.{add}
 use Rattle.lsp.specs.Lsp.{interpolate}

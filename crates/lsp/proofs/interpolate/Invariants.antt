@@ -1,15 +1,11 @@
 -- `lsp::interpolate` meets its contract: the first i words are set.
-use mathlib.Core.Path.{◌≡◌, refl}
+use mathlib.Core.Path.{◌≡◌}
 use Prim.Native.Nat.{◌-◌, ◌≤◌}
 use lib.IntN.{pos}
 use lib.ListN.{replicate}
 use lib.Signed.{shr_z}
-use mir.Syntax.{w16}
-use Rattle.laws.specs.Lists.{at, filled, filled_none, fill, filled_end}
-use Rattle.laws.specs.Back.{via2}
+use Rattle.laws.specs.Lists.{at, filled}
 use Rattle.basic_op.specs.Ops.{add}
-use Rattle.lsp.specs.Lsp.{interpolate}
-use native.Mathlib.Omega.{arith}
 use Rattle.lsp.proofs.interpolate.Given as goal
 
 abbrev pub invariant-loop-i : goal.invariant-loop-i

@@ -1,14 +1,9 @@
 -- `lsp::keep_distances` meets its contract: the first k places after the first are done.
-use mathlib.Core.Path.{◌≡◌, ◌∙◌}
+use mathlib.Core.Path.{◌≡◌}
 use Prim.Native.Nat.{◌+◌, ◌-◌, ◌≤◌}
-use mir.Syntax.{w16}
-use mir.Val.{to_z}
-use mir.Facts.{to_z-of_z}
 use Rattle.laws.specs.Lists.{at}
-use Rattle.laws.specs.Loops.{run, run_none, write, ended_from}
-use Rattle.laws.specs.Back.{via2}
+use Rattle.laws.specs.Loops.{run}
 use Rattle.lsp.specs.Lsp.{keep_distance}
-use native.Mathlib.Omega.{arith}
 use Rattle.lsp.proofs.keep_distances.Given as goal
 
 abbrev pub invariant-loop-k : goal.invariant-loop-k

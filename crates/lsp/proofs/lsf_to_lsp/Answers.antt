@@ -1,7 +1,7 @@
 -- `lsp::lsf_to_lsp` meets its contract: the scale is the block's.
 use mathlib.Core.Path.{◌∙◌}
 use mir.Syntax.{w16}
-use Rattle.laws.specs.Back.{came, via}
+use Rattle.laws.specs.Back.{via}
 use Rattle.lsp.proofs.lsf_to_lsp.Goals as goal
 
 pub returns : goal.returns

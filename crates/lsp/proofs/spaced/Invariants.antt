@@ -1,16 +1,8 @@
 -- `lsp::spaced` meets its contract: the first k pairs are tested.
-use mathlib.Core.Path.{◌≡◌, ◌∙◌}
-use mathlib.Core.Logic.{⊎_elim}
+use mathlib.Core.Path.{◌≡◌}
 use Prim.Native.Nat.{◌-◌, ◌≤◌}
-use mir.Syntax.{w16}
-use mir.Val.{to_z, of_z}
-use mir.Facts.{to_z-of_z}
-use Rattle.laws.specs.Lists.{at}
-use Rattle.laws.specs.Loops.{nowhere, nowhere_none, nowhere_hit, nowhere_miss, ended}
-use Rattle.laws.specs.Back.{via2}
-use Rattle.basic_op.specs.Ops.{add, sub}
+use Rattle.laws.specs.Loops.{nowhere}
 use Rattle.lsp.specs.Laws.{close}
-use native.Mathlib.Omega.{arith}
 use Rattle.lsp.proofs.spaced.Given as goal
 
 abbrev pub invariant-loop-k : goal.invariant-loop-k

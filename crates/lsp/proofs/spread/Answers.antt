@@ -1,8 +1,6 @@
 -- The answers of `lsp::spread`.
-use mathlib.Core.Path.{◌≡◌, ◌∙◌}
-use Prim.Native.Nat.{◌-◌, ◌≤◌}
-use mir.Syntax.{w16}
-use mir.Val.{to_z}
+use mathlib.Core.Path.{◌∙◌}
+use Prim.Native.Nat.{◌-◌}
 use mir.Facts.{to_z-of_z}
 use Rattle.laws.specs.Loops.{steps, steps_none, steps_turn, ended_from}
 use Rattle.lsp.specs.Lsp.{spread_pair, enforce_spacing}

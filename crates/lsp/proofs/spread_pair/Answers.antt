@@ -4,7 +4,7 @@ use Prim.Native.Nat.{◌+◌}
 use mir.Syntax.{w16}
 use mir.Facts.{to_z-of_z}
 use Rattle.laws.specs.Lists.{at}
-use Rattle.laws.specs.Back.{came, via}
+use Rattle.laws.specs.Back.{via}
 use Rattle.lsp.specs.Laws.{too_close, wide_enough}
 use Rattle.lsp.proofs.spread_pair.Goals as goal
 

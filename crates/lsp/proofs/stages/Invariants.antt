@@ -1,15 +1,12 @@
 -- `lsp::stages` meets its contract: the first i words are set.
-use mathlib.Core.Path.{◌≡◌, refl, ◌∙◌}
+use mathlib.Core.Path.{◌≡◌}
 use Prim.Native.Nat.{◌-◌, ◌≤◌}
 use mathlib.Core.Bool.{cond}
 use lib.Dec.{ltb}
 use lib.IntN.{pos}
 use lib.ListN.{replicate}
-use mir.Syntax.{w16}
-use Rattle.laws.specs.Lists.{at, filled, filled_none, fill, filled_end}
-use Rattle.laws.specs.Back.{via2}
+use Rattle.laws.specs.Lists.{at, filled}
 use Rattle.basic_op.specs.Ops.{add}
-use native.Mathlib.Omega.{arith}
 use Rattle.lsp.proofs.stages.Given as goal
 
 abbrev pub invariant-loop-i : goal.invariant-loop-i

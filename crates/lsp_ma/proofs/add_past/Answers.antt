@@ -1,14 +1,12 @@
 -- The answers of `lsp_ma::add_past`.
-use mathlib.Core.Path.{◌≡◌, ◌∙◌}
-use Prim.Native.Nat.{◌-◌, ◌≤◌}
+use mathlib.Core.Path.{◌∙◌}
+use Prim.Native.Nat.{◌-◌}
 use mir.Syntax.{w16, w32}
-use mir.Val.{to_z}
 use mir.Facts.{to_z-of_z}
-use Rattle.laws.specs.Lists.{at}
 use Rattle.laws.specs.Loops.{steps, steps_none, steps_turn, ended_from}
 use Rattle.laws.specs.Back.{via2}
 use Rattle.basic_op.specs.Ops.{l_mac}
-use Rattle.lsp_ma.specs.Ma.{row, add_past}
+use Rattle.lsp_ma.specs.Ma.{add_past}
 use native.Mathlib.Omega.{arith}
 use Rattle.std.proofs.Common.{rules}
 use Rattle.lsp_ma.proofs.add_past.Goals as goal

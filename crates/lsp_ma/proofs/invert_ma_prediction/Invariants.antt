@@ -1,14 +1,11 @@
 -- `lsp_ma::invert_ma_prediction` meets its contract: the first i words are set.
-use mathlib.Core.Path.{◌≡◌, refl}
+use mathlib.Core.Path.{◌≡◌}
 use Prim.Native.Nat.{◌-◌, ◌≤◌}
 use lib.IntN.{pos}
 use lib.ListN.{replicate}
-use mir.Syntax.{w16}
-use Rattle.laws.specs.Lists.{at, filled, filled_none, fill, filled_end}
-use Rattle.laws.specs.Back.{via2}
+use Rattle.laws.specs.Lists.{at, filled}
 use Rattle.basic_op.specs.Ops.{l_mult, l_shl, extract_h, l_deposit_h}
-use Rattle.lsp_ma.specs.Ma.{subtract_past, invert_ma_prediction}
-use native.Mathlib.Omega.{arith}
+use Rattle.lsp_ma.specs.Ma.{subtract_past}
 use Rattle.lsp_ma.proofs.invert_ma_prediction.Given as goal
 
 abbrev pub invariant-loop-i : goal.invariant-loop-i

@@ -1,10 +1,8 @@
 -- The answers of `lsp_ma::ma_prediction`.
-use mathlib.Core.Path.{◌≡◌, refl}
-use Prim.Native.Nat.{◌-◌, ◌≤◌}
-use lib.IntN.{pos}
-use lib.ListN.{replicate}
+use mathlib.Core.Path.{refl}
+use Prim.Native.Nat.{◌-◌}
 use mir.Syntax.{w16}
-use Rattle.laws.specs.Lists.{at, filled, filled_none, fill, filled_end}
+use Rattle.laws.specs.Lists.{filled_none, fill, filled_end}
 use Rattle.laws.specs.Back.{via2}
 use Rattle.basic_op.specs.Ops.{l_mult, extract_h}
 use Rattle.lsp_ma.specs.Ma.{add_past, ma_prediction}
@@ -13,12 +11,11 @@ use Rattle.std.proofs.Common.{rules}
 use Rattle.lsp_ma.proofs.ma_prediction.Goals as goal
 
 pub loop-i-preserved : goal.loop-i-preserved
-loop-i-preserved c =
-    (
-      search rules,
-      fill _ _ _ _ _ (search rules) c.loop-i.invariant.1
-          (via2 w16 w16 w16 (λ x y. extract_h (add_past c.args.past c.args.weights c.loop-i.i (l_mult x y))) _ _ c.predicted.result c.predicted-arg-1.given c.predicted-arg-in-loop-i-1.given c.predicted.type_inv c.predicted.ensures),
-    )
+loop-i-preserved c = (
+  search rules,
+  fill _ _ _ _ _ (search rules) c.loop-i.invariant.1
+      (via2 w16 w16 w16 (λ x y. extract_h (add_past c.args.past c.args.weights c.loop-i.i (l_mult x y))) _ _ c.predicted.result c.predicted-arg-1.given c.predicted-arg-in-loop-i-1.given c.predicted.type_inv c.predicted.ensures),
+)
 
 pub returns : goal.returns
 unfolding ma_prediction

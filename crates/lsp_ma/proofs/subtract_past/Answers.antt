@@ -1,14 +1,12 @@
 -- The answers of `lsp_ma::subtract_past`.
-use mathlib.Core.Path.{◌≡◌, ◌∙◌}
-use Prim.Native.Nat.{◌-◌, ◌≤◌}
+use mathlib.Core.Path.{◌∙◌}
+use Prim.Native.Nat.{◌-◌}
 use mir.Syntax.{w16, w32}
-use mir.Val.{to_z}
 use mir.Facts.{to_z-of_z}
-use Rattle.laws.specs.Lists.{at}
 use Rattle.laws.specs.Loops.{steps, steps_none, steps_turn, ended_from}
 use Rattle.laws.specs.Back.{via2}
 use Rattle.basic_op.specs.Ops.{l_msu}
-use Rattle.lsp_ma.specs.Ma.{row, subtract_past}
+use Rattle.lsp_ma.specs.Ma.{subtract_past}
 use native.Mathlib.Omega.{arith}
 use Rattle.std.proofs.Common.{rules}
 use Rattle.lsp_ma.proofs.subtract_past.Goals as goal

@@ -1,15 +1,10 @@
 -- `lsp_ma::subtract_past` meets its contract: the terms of the first k rows are in the total.
-use mathlib.Core.Path.{◌≡◌, ◌∙◌}
+use mathlib.Core.Path.{◌≡◌}
 use Prim.Native.Nat.{◌-◌, ◌≤◌}
-use mir.Syntax.{w16, w32}
-use mir.Val.{to_z}
-use mir.Facts.{to_z-of_z}
 use Rattle.laws.specs.Lists.{at}
-use Rattle.laws.specs.Loops.{steps, steps_none, steps_turn, ended_from}
-use Rattle.laws.specs.Back.{via2}
+use Rattle.laws.specs.Loops.{steps}
 use Rattle.basic_op.specs.Ops.{l_msu}
-use Rattle.lsp_ma.specs.Ma.{row, subtract_past}
-use native.Mathlib.Omega.{arith}
+use Rattle.lsp_ma.specs.Ma.{row}
 use Rattle.lsp_ma.proofs.subtract_past.Given as goal
 
 abbrev pub invariant-loop-k : goal.invariant-loop-k

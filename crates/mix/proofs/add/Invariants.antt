@@ -1,12 +1,9 @@
 -- `mix::add` meets its contract: before turn i the first i sums have the leg's samples.
 use Prim.Native.Nat.{◌+◌, ◌-◌, ◌≤◌}
-use mathlib.Core.Path.{◌≡◌, ap, ◌∙◌}
-use native.Mathlib.Omega.{arith}
+use mathlib.Core.Path.{◌≡◌}
 use lib.IntN.{ℤ, ◌+ℤ◌}
-use mir.Syntax.{w16, w32}
-use Rattle.laws.specs.Lists.{at, filled, filled_none, filled_next, fill, filled_end}
-use Rattle.laws.specs.Back.{via, via2}
-use Rattle.mix.specs.Laws.{SamplesAt, samples_none, samples_turn}
+use Rattle.laws.specs.Lists.{at, filled}
+use Rattle.mix.specs.Laws.{SamplesAt}
 use Rattle.mix.proofs.add.Given as goal
 
 abbrev pub invariant-loop-i : goal.invariant-loop-i

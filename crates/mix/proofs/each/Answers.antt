@@ -1,9 +1,8 @@
 -- The answers of `mix::each`.
-use Prim.Native.Nat.{◌-◌, ◌/◌, ◌≤◌}
-use mathlib.Core.Path.{◌≡◌, refl}
+use Prim.Native.Nat.{◌-◌}
+use mathlib.Core.Path.{refl}
 use native.Mathlib.Omega.{arith}
-use lib.ListN.{length}
-use Rattle.mix.specs.Laws.{Heard, heard_none, heard_end}
+use Rattle.mix.specs.Laws.{heard_none, heard_end}
 use Rattle.mix.proofs.Laws.{heard_turn}
 use Rattle.std.proofs.Common.{rules}
 use Rattle.mix.proofs.each.Goals as goal

@@ -1,10 +1,8 @@
 -- `mix::each` meets its contract: before turn k what the first k legs heard is written.
 use Prim.Native.Nat.{◌-◌, ◌/◌, ◌≤◌}
-use mathlib.Core.Path.{◌≡◌, refl}
-use native.Mathlib.Omega.{arith}
+use mathlib.Core.Path.{◌≡◌}
 use lib.ListN.{length}
-use Rattle.mix.specs.Laws.{Heard, heard_none, heard_end}
-use Rattle.mix.proofs.Laws.{heard_turn}
+use Rattle.mix.specs.Laws.{Heard}
 use Rattle.mix.proofs.each.Given as goal
 
 abbrev pub invariant-loop-k : goal.invariant-loop-k

@@ -1,16 +1,11 @@
 -- `mix::less` meets its contract: before turn i the first i samples of what the leg heard are written.
 use Prim.Native.Nat.{◌+◌, ◌-◌, ◌≤◌}
-use mathlib.Core.Path.{◌≡◌, refl}
-use native.Mathlib.Omega.{arith}
+use mathlib.Core.Path.{◌≡◌}
 use lib.IntN.{◌-ℤ◌}
-use lib.ListN.{length, length-set}
-use lib.Seq.{paste, paste-zero}
-use mir.Syntax.{w16, w32}
+use lib.ListN.{length}
+use lib.Seq.{paste}
 use Rattle.laws.specs.Lists.{at, tab}
-use Rattle.laws.specs.Loops.{ended}
-use Rattle.laws.specs.Back.{via, via2}
 use Rattle.basic_op.specs.Ops.{sat16}
-use Rattle.mix.specs.Laws.{less_turn}
 use Rattle.mix.proofs.less.Given as goal
 
 abbrev pub invariant-loop-i : goal.invariant-loop-i

@@ -1,5 +1,4 @@
 -- `mix::refusal` meets its contract: each test picks its case.
-use lib.Dec.{eqb}
 use borrow.Author.Tests.{eq-eqb, ne_eqb}
 use Rattle.mix.specs.Mix.{whole, refusal}
 use Rattle.mix.proofs.refusal.Goals as goal

@@ -1,9 +1,8 @@
 -- The answers of `mix::sums`.
-use Prim.Native.Nat.{◌-◌, ◌/◌, ◌≤◌}
-use mathlib.Core.Path.{◌≡◌, refl}
+use Prim.Native.Nat.{◌-◌}
+use mathlib.Core.Path.{refl}
 use native.Mathlib.Omega.{arith}
-use lib.ListN.{length}
-use Rattle.mix.specs.Laws.{Summed, summed_none, summed_length, summed_end, within_more}
+use Rattle.mix.specs.Laws.{summed_none, summed_length, summed_end, within_more}
 use Rattle.mix.proofs.Laws.{summed_turn}
 use Rattle.std.proofs.Common.{rules}
 use Rattle.mix.proofs.sums.Goals as goal

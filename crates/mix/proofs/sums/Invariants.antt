@@ -1,10 +1,8 @@
 -- `mix::sums` meets its contract: before turn k the first k legs are added.
 use Prim.Native.Nat.{◌-◌, ◌/◌, ◌≤◌}
-use mathlib.Core.Path.{◌≡◌, refl}
-use native.Mathlib.Omega.{arith}
+use mathlib.Core.Path.{◌≡◌}
 use lib.ListN.{length}
-use Rattle.mix.specs.Laws.{Summed, summed_none, summed_length, summed_end, within_more}
-use Rattle.mix.proofs.Laws.{summed_turn}
+use Rattle.mix.specs.Laws.{Summed}
 use Rattle.mix.proofs.sums.Given as goal
 
 abbrev pub invariant-loop-k : goal.invariant-loop-k

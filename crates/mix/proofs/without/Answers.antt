@@ -4,7 +4,7 @@ use mir.Syntax.{w16, w32}
 use mir.Val.{to_z, of_z}
 use mir.Facts.{to_z-of_z}
 use lib.IntN.{ℤ}
-use Rattle.laws.specs.Back.{came, via, widens, wide, still}
+use Rattle.laws.specs.Back.{via, widens, wide, still}
 use Rattle.basic_op.specs.Ops.{sat16}
 use Rattle.mix.specs.Laws.{less_fits}
 use Rattle.mix.proofs.without.Goals as goal

@@ -1,6 +1,5 @@
 -- `options::next` meets its contract: each way out rewrites with the tests that led there.
 use mathlib.Core.Path.{sym, ◌∙◌}
-use native.Mathlib.Omega.{arith}
 use borrow.Author.Tests.{eq-eqb, ne_eqb, lt-ltb, le-ltb}
 use Rattle.options.specs.Options.{next}
 use Rattle.options.proofs.next.Goals as goal

@@ -3,7 +3,7 @@ use mathlib.Core.Path.{◌∙◌}
 use Prim.Native.Nat.{◌<◌}
 use lib.Signed.{mag}
 use mir.Syntax.{w16}
-use Rattle.laws.specs.Back.{came, via}
+use Rattle.laws.specs.Back.{via}
 use Rattle.parameters.specs.Parameters.{coded}
 use Rattle.std.proofs.Common.{rules}
 use Rattle.parameters.proofs.coded.Goals as goal

@@ -2,7 +2,7 @@
 use Prim.Native.Nat.{◌<◌}
 use lib.Signed.{mag}
 use mir.Syntax.{w16}
-use Rattle.laws.specs.Back.{came, via}
+use Rattle.laws.specs.Back.{via}
 use mir.Facts.{to_z-of_z}
 use Rattle.parameters.specs.Parameters.{sharpened}
 use Rattle.std.proofs.Common.{rules}

@@ -1,10 +1,9 @@
 -- The answers of `payload_line::put_frames`.
 use mathlib.Core.Path.{◌≡◌}
-use Prim.Native.Nat.{◌*◌, ◌-◌, ◌≤◌}
+use Prim.Native.Nat.{◌-◌}
 use native.Mathlib.Omega.{arith}
-use Rattle.text.specs.Text.{Put}
 use Rattle.text.specs.Laws.{kept}
-use Rattle.payload_line.specs.PayloadLine.{frame_lines, payload}
+use Rattle.payload_line.specs.PayloadLine.{payload}
 use Rattle.payload_line.specs.Laws.{lines_none, lines_more}
 use Rattle.std.proofs.Common.{rules}
 use Rattle.payload_line.proofs.put_frames.Goals as goal

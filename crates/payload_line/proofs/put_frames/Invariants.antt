@@ -1,11 +1,7 @@
 -- `payload_line::put_frames` meets its contract: the lines of the frames passed.
-use mathlib.Core.Path.{◌≡◌}
 use Prim.Native.Nat.{◌*◌, ◌-◌, ◌≤◌}
-use native.Mathlib.Omega.{arith}
 use Rattle.text.specs.Text.{Put}
-use Rattle.text.specs.Laws.{kept}
 use Rattle.payload_line.specs.PayloadLine.{frame_lines, payload}
-use Rattle.payload_line.specs.Laws.{lines_none, lines_more}
 use Rattle.payload_line.proofs.put_frames.Given as goal
 
 abbrev pub invariant-loop-k : goal.invariant-loop-k

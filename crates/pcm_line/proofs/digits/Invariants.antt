@@ -1,12 +1,9 @@
 -- `pcm_line::digits` meets its contract: before turn i the first i samples are read.
-use mathlib.Core.Path.{◌≡◌, refl, ◌∙◌}
+use mathlib.Core.Path.{◌≡◌}
 use Prim.Native.Nat.{◌+◌, ◌*◌, ◌-◌, ◌≤◌}
-use native.Mathlib.Omega.{arith}
-use lib.ListN.{length, length-set}
-use mir.Syntax.{w16}
-use Rattle.laws.specs.Back.{came, via}
-use Rattle.laws.specs.Lists.{filled, filled_none, fill}
-use Rattle.pcm_line.specs.PcmLine.{sample, digits}
+use lib.ListN.{length}
+use Rattle.laws.specs.Lists.{filled}
+use Rattle.pcm_line.specs.PcmLine.{sample}
 use Rattle.pcm_line.proofs.digits.Given as goal
 
 abbrev pub invariant-loop-i : goal.invariant-loop-i

@@ -1,8 +1,8 @@
 -- `pcm_line::read` meets its contract: each test picks its case of the definition.
 use mathlib.Core.Path.{refl}
 use native.Mathlib.Omega.{arith}
-use borrow.Author.Tests.{not-true, not-false}
-use Rattle.pcm_line.specs.Laws.{read_short, read_over, read_other, read_done}
+use Rattle.pcm_line.specs.Laws.{read_short, read_over}
+use Rattle.pcm_line.proofs.Laws.{read_other, read_done}
 use Rattle.pcm_line.proofs.read.Goals as goal
 
 pub returns-then-text-lt10 : goal.returns-then-text-lt10

@@ -4,7 +4,7 @@ use native.Mathlib.Omega.{arith}
 use mir.Syntax.{w16, w32}
 use mir.ValLaws.{to_z_pos}
 use Rattle.basic_op.specs.Ops.{extract_l}
-use Rattle.laws.specs.Back.{came, via}
+use Rattle.laws.specs.Back.{via}
 use Rattle.pcm_line.specs.PcmLine.{sample}
 use Rattle.pcm_line.proofs.sample.Goals as goal
 

@@ -1,6 +1,5 @@
 -- `pitch::concealed_delays` meets its contract: what `erased_lent` hands back and leaves, twice.
-use mathlib.Core.Path.{◌≡◌}
-use Rattle.pitch.specs.Pitch.{erased, concealed_delays}
+use Rattle.pitch.specs.Pitch.{concealed_delays}
 use Rattle.pitch.proofs.concealed_delays.Goals as goal
 
 pub returns : goal.returns

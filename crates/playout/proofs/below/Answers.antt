@@ -1,10 +1,7 @@
 -- The answers of `playout::below`.
-use mathlib.Core.Path.{◌≡◌, refl, ◌∙◌}
-use mathlib.Core.Logic.{⊎_elim}
-use Prim.Native.Nat.{◌-◌, ◌≤◌}
+use mathlib.Core.Path.{refl, ◌∙◌}
+use Prim.Native.Nat.{◌-◌}
 use native.Mathlib.Omega.{arith}
-use lib.Dec.{leb}
-use lib.ListN.{length, get_or}
 use borrow.Author.Tests.{le-leb, lt-leb}
 use Rattle.laws.specs.Loops.{nowhere, nowhere_none, nowhere_hit, nowhere_miss, ended}
 use Rattle.playout.specs.Playout.{below}

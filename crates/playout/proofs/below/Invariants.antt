@@ -1,13 +1,9 @@
 -- `playout::below` meets its contract: before turn j none of the first j numbers is the frame count or above it, or the answer is no.
-use mathlib.Core.Path.{◌≡◌, refl, ◌∙◌}
-use mathlib.Core.Logic.{⊎_elim}
+use mathlib.Core.Path.{◌≡◌}
 use Prim.Native.Nat.{◌-◌, ◌≤◌}
-use native.Mathlib.Omega.{arith}
 use lib.Dec.{leb}
 use lib.ListN.{length, get_or}
-use borrow.Author.Tests.{le-leb, lt-leb}
-use Rattle.laws.specs.Loops.{nowhere, nowhere_none, nowhere_hit, nowhere_miss, ended}
-use Rattle.playout.specs.Playout.{below}
+use Rattle.laws.specs.Loops.{nowhere}
 use Rattle.playout.proofs.below.Given as goal
 
 abbrev pub invariant-loop-j : goal.invariant-loop-j

@@ -1,10 +1,8 @@
 -- The answers of `playout::clear`.
-use mathlib.Core.Path.{◌≡◌, refl}
-use mathlib.Core.List.{map}
-use Prim.Native.Nat.{ℕ, ◌-◌, ◌≤◌}
+use mathlib.Core.Path.{refl}
+use Prim.Native.Nat.{ℕ, ◌-◌}
 use native.Mathlib.Omega.{arith}
-use lib.ListN.{length, length-set}
-use lib.Seq.{paste}
+use lib.ListN.{length-set}
 use Rattle.laws.specs.Lists.{map_none, map_turn, map_end}
 use Rattle.std.proofs.Common.{rules}
 use Rattle.playout.proofs.clear.Goals as goal

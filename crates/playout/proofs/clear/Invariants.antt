@@ -1,11 +1,9 @@
 -- `playout::clear` meets its contract: before turn i the first i kinds are 3.
-use mathlib.Core.Path.{◌≡◌, refl}
+use mathlib.Core.Path.{◌≡◌}
 use mathlib.Core.List.{map}
-use Prim.Native.Nat.{ℕ, ◌-◌, ◌≤◌}
-use native.Mathlib.Omega.{arith}
-use lib.ListN.{length, length-set}
+use Prim.Native.Nat.{◌-◌, ◌≤◌}
+use lib.ListN.{length}
 use lib.Seq.{paste}
-use Rattle.laws.specs.Lists.{map_none, map_turn, map_end}
 use Rattle.playout.proofs.clear.Given as goal
 
 abbrev pub invariant-loop-i : goal.invariant-loop-i

@@ -1,9 +1,9 @@
 -- The answers of `playout::kinds`.
-use mathlib.Core.Path.{◌≡◌, ap, ◌∙◌}
-use Prim.Native.Nat.{◌-◌, ◌≤◌, min}
+use mathlib.Core.Path.{ap, ◌∙◌}
+use Prim.Native.Nat.{◌-◌}
 use native.Mathlib.Omega.{arith}
 use lib.ListN.{length, length-map}
-use Rattle.playout.specs.Laws.{Taken, taken_none, taken_turn, taken_end, taken_length}
+use Rattle.playout.specs.Laws.{taken_none, taken_turn, taken_end, taken_length}
 use Rattle.std.proofs.Common.{rules}
 use Rattle.playout.proofs.kinds.Goals as goal
 

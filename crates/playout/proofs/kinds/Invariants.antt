@@ -1,9 +1,8 @@
 -- `playout::kinds` meets its contract: before turn j the first j arrivals are taken.
-use mathlib.Core.Path.{◌≡◌, ap, ◌∙◌}
+use mathlib.Core.Path.{◌≡◌}
 use Prim.Native.Nat.{◌-◌, ◌≤◌, min}
-use native.Mathlib.Omega.{arith}
-use lib.ListN.{length, length-map}
-use Rattle.playout.specs.Laws.{Taken, taken_none, taken_turn, taken_end, taken_length}
+use lib.ListN.{length}
+use Rattle.playout.specs.Laws.{Taken}
 use Rattle.playout.proofs.kinds.Given as goal
 
 abbrev pub invariant-loop-j : goal.invariant-loop-j

@@ -1,9 +1,8 @@
 -- The answers of `playout::least`.
-use mathlib.Core.Path.{◌≡◌, refl, sym, ap, ◌∙◌}
+use mathlib.Core.Path.{refl, sym, ap, ◌∙◌}
 use Prim.Native.Nat.{ℕ, ◌+◌, ◌-◌, ◌/◌}
 use native.Mathlib.Omega.{arith}
 use lib.ListN.{length}
-use borrow.Author.Tests.{not-true, not-false}
 use Rattle.playout.specs.Playout.{arrivals, kinds}
 use Rattle.playout.specs.Laws.{length_kinds}
 use Rattle.playout.specs.Least.{half_less, Inside, inside_first, inside_turn, least_never, least_found}

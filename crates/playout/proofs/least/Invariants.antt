@@ -1,12 +1,9 @@
 -- `playout::least` meets its contract: the least depth stays between the two, and each turn halves what is between them.
-use mathlib.Core.Path.{◌≡◌, refl, sym, ap, ◌∙◌}
-use Prim.Native.Nat.{ℕ, ◌+◌, ◌-◌, ◌/◌}
-use native.Mathlib.Omega.{arith}
+use mathlib.Core.Path.{◌≡◌}
+use Prim.Native.Nat.{◌-◌}
 use lib.ListN.{length}
-use borrow.Author.Tests.{not-true, not-false}
-use Rattle.playout.specs.Playout.{arrivals, kinds}
-use Rattle.playout.specs.Laws.{length_kinds}
-use Rattle.playout.specs.Least.{half_less, Inside, inside_first, inside_turn, least_never, least_found}
+use Rattle.playout.specs.Playout.{arrivals}
+use Rattle.playout.specs.Least.{Inside}
 use Rattle.playout.proofs.least.Given as goal
 
 abbrev pub invariant-loop-b : goal.invariant-loop-b

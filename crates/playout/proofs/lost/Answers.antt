@@ -1,10 +1,9 @@
 -- The answers of `playout::lost`.
-use mathlib.Core.Path.{◌≡◌, refl, ap, ◌∙◌}
-use Prim.Native.Nat.{ℕ, ◌+◌, ◌-◌, ◌≤◌}
+use mathlib.Core.Path.{refl, ap, ◌∙◌}
+use Prim.Native.Nat.{ℕ, ◌+◌, ◌-◌}
 use native.Mathlib.Omega.{arith}
 use lib.Dec.{eqb}
-use lib.ListN.{length, take, get_or}
-use Rattle.playout.specs.Playout.{lost}
+use lib.ListN.{get_or}
 use Rattle.playout.specs.Laws.{lost_none, lost_turn, lost_end, lost_few, one_most}
 use Rattle.std.proofs.Common.{rules}
 use Rattle.playout.proofs.lost.Goals as goal

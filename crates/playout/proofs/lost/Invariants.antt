@@ -1,11 +1,8 @@
 -- `playout::lost` meets its contract: before turn i the lost of the first i kinds are counted.
-use mathlib.Core.Path.{◌≡◌, refl, ap, ◌∙◌}
-use Prim.Native.Nat.{ℕ, ◌+◌, ◌-◌, ◌≤◌}
-use native.Mathlib.Omega.{arith}
-use lib.Dec.{eqb}
-use lib.ListN.{length, take, get_or}
+use mathlib.Core.Path.{◌≡◌}
+use Prim.Native.Nat.{◌-◌, ◌≤◌}
+use lib.ListN.{length, take}
 use Rattle.playout.specs.Playout.{lost}
-use Rattle.playout.specs.Laws.{lost_none, lost_turn, lost_end, lost_few, one_most}
 use Rattle.playout.proofs.lost.Given as goal
 
 abbrev pub invariant-loop-i : goal.invariant-loop-i

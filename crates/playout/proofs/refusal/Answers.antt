@@ -5,8 +5,7 @@ use mathlib.Core.List.{List}
 use Prim.Native.Nat.{ℕ}
 use lib.Dec.{eqb, leb}
 use lib.ListN.{length}
-use borrow.Author.Tests.{not-true, not-false}
-use Rattle.playout.specs.Playout.{below, refusal}
+use Rattle.playout.specs.Playout.{refusal}
 use Rattle.playout.proofs.refusal.Goals as goal
 
 abbrev few : ℕ → List ℕ → Bool

@@ -1,5 +1,4 @@
 -- The answers of `print::number`.
-use Rattle.std.specs.Prelude.{◌<◌, length}
 use Rattle.std.proofs.Common.{rules, arith}
 use Rattle.text.specs.Laws.{kept}
 use Rattle.print.specs.Laws.{but_last, number_one, number_more}

@@ -1,14 +1,12 @@
 -- The answers of `print::words`.
 use mathlib.Core.Path.{◌≡◌, ap, ◌∙◌}
-use Prim.Native.Nat.{◌-◌, ◌≤◌}
+use Prim.Native.Nat.{◌-◌}
 use native.Mathlib.Omega.{arith}
 use lib.ListN.{length}
 use mir.Syntax.{w16}
 use Rattle.basic_op.specs.Ops.{low16}
 use Rattle.laws.specs.Back.{via}
-use Rattle.text.specs.Text.{Put}
 use Rattle.text.specs.Laws.{kept}
-use Rattle.print.specs.Print.{words}
 use Rattle.print.specs.Laws.{length_words, word_none, word_more}
 use Rattle.std.proofs.Common.{rules}
 use Rattle.print.proofs.words.Goals as goal

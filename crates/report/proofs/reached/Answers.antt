@@ -1,6 +1,6 @@
 -- `report::reached` meets its contract.
 use mathlib.Core.Path.{sym, ◌∙◌}
-use borrow.Author.Tests.{not-true, not-false, eq-eqb, ne_eqb}
+use borrow.Author.Tests.{eq-eqb, ne_eqb}
 use Rattle.report.specs.Report.{reached}
 use Rattle.report.proofs.reached.Goals as goal
 

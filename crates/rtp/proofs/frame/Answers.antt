@@ -1,5 +1,4 @@
 -- `rtp::frame` meets its contract: what `find` and `part` hand back, together.
-use mathlib.Core.Path.{◌≡◌}
 use Rattle.rtp.specs.Rtp.{frame}
 use Rattle.rtp.proofs.frame.Goals as goal
 

@@ -2,7 +2,7 @@
 use Prim.Native.Nat.{◌<◌, ◌≤◌}
 use mathlib.Core.Path.{sym, ◌∙◌}
 use lib.Bits.{bit_and, and_mask}
-use borrow.Author.Tests.{not-true, not-false, lt-ltb, le-ltb}
+use borrow.Author.Tests.{lt-ltb, le-ltb}
 use Rattle.rule.specs.Rule.{first_rule}
 use Rattle.rule.proofs.first_rule.Goals as goal
 use Rattle.rule.proofs.first_rule.Goals.{Else-p1-lt197, Then-p1-lt197}

@@ -1,6 +1,6 @@
 -- `state::accepted` meets its contract: the predictor's two tests decide, or the delay's.
 use mir.Syntax.{w16}
-use Rattle.laws.specs.Back.{came, via}
+use Rattle.laws.specs.Back.{via}
 use Rattle.state.specs.State.{read_params, accepted, predictor_in_range}
 use Rattle.state.proofs.accepted.Goals as goal
 

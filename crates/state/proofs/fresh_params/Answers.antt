@@ -1,6 +1,6 @@
 -- `state::fresh_params` meets its contract: each part is what its reader gives.
 use mir.Syntax.{w16}
-use Rattle.laws.specs.Back.{came, via}
+use Rattle.laws.specs.Back.{via}
 use Rattle.state.specs.State.{fresh_params}
 use Rattle.state.proofs.fresh_params.Goals as goal
 

@@ -1,7 +1,7 @@
 -- `state::read_params` meets its contract: each part is what its reader gives.
 use mathlib.Core.Path.{◌∙◌}
 use mir.Syntax.{w16}
-use Rattle.laws.specs.Back.{came, via}
+use Rattle.laws.specs.Back.{via}
 use Rattle.state.specs.State.{read_params}
 use Rattle.state.proofs.read_params.Goals as goal
 

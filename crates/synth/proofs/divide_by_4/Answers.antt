@@ -1,12 +1,12 @@
 -- The answers of `synth::divide_by_4`.
-use Prim.Native.Nat.{◌-◌, ◌^◌, ◌≤◌}
-use mathlib.Core.Path.{◌≡◌, refl, ap, ◌∙◌}
+use Prim.Native.Nat.{◌-◌, ◌^◌}
+use mathlib.Core.Path.{refl, ap, ◌∙◌}
 use native.Mathlib.Omega.{arith}
 use lib.IntN.{ℤ}
-use lib.ListN.{length, length-set}
+use lib.ListN.{length-set}
 use lib.Signed.{shr_z}
 use mir.Syntax.{w16}
-use Rattle.laws.specs.Lists.{at, filled, filled_none, fill, filled_next, filled_map}
+use Rattle.laws.specs.Lists.{at, filled_none, fill, filled_next, filled_map}
 use Rattle.laws.specs.Back.{via1}
 use Rattle.synth.specs.Synth.{divide_by_4}
 use Rattle.std.proofs.Common.{rules}

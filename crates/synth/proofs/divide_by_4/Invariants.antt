@@ -1,14 +1,9 @@
 -- `synth::divide_by_4` meets its contract: before turn n the first n words are divided.
 use Prim.Native.Nat.{◌-◌, ◌^◌, ◌≤◌}
-use mathlib.Core.Path.{◌≡◌, refl, ap, ◌∙◌}
-use native.Mathlib.Omega.{arith}
-use lib.IntN.{ℤ}
-use lib.ListN.{length, length-set}
+use mathlib.Core.Path.{◌≡◌}
+use lib.ListN.{length}
 use lib.Signed.{shr_z}
-use mir.Syntax.{w16}
-use Rattle.laws.specs.Lists.{at, filled, filled_none, fill, filled_next, filled_map}
-use Rattle.laws.specs.Back.{via1}
-use Rattle.synth.specs.Synth.{divide_by_4}
+use Rattle.laws.specs.Lists.{at, filled}
 use Rattle.synth.proofs.divide_by_4.Given as goal
 
 abbrev pub invariant-loop-n : goal.invariant-loop-n

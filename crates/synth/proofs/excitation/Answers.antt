@@ -1,11 +1,9 @@
 -- The answers of `synth::excitation`.
-use Prim.Native.Nat.{◌+◌, ◌-◌, ◌≤◌}
-use mathlib.Core.Path.{◌≡◌, ◌∙◌}
+use Prim.Native.Nat.{◌-◌}
+use mathlib.Core.Path.{◌∙◌}
 use native.Mathlib.Omega.{arith}
 use mir.Syntax.{w16}
-use mir.Val.{to_z}
 use mir.Facts.{to_z-of_z}
-use Rattle.laws.specs.Lists.{at}
 use Rattle.laws.specs.Loops.{run, run_none, write, ended_from}
 use Rattle.laws.specs.Back.{via2}
 use Rattle.synth.specs.Synth.{excite, excitation}

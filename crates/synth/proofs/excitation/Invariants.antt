@@ -1,14 +1,9 @@
 -- `synth::excitation` meets its contract: before turn n the first n words of the subframe are excitation.
 use Prim.Native.Nat.{◌+◌, ◌-◌, ◌≤◌}
-use mathlib.Core.Path.{◌≡◌, ◌∙◌}
-use native.Mathlib.Omega.{arith}
-use mir.Syntax.{w16}
-use mir.Val.{to_z}
-use mir.Facts.{to_z-of_z}
+use mathlib.Core.Path.{◌≡◌}
 use Rattle.laws.specs.Lists.{at}
-use Rattle.laws.specs.Loops.{run, run_none, write, ended_from}
-use Rattle.laws.specs.Back.{via2}
-use Rattle.synth.specs.Synth.{excite, excitation}
+use Rattle.laws.specs.Loops.{run}
+use Rattle.synth.specs.Synth.{excite}
 use Rattle.synth.proofs.excitation.Given as goal
 
 abbrev pub invariant-loop-n : goal.invariant-loop-n

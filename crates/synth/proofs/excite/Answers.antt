@@ -4,7 +4,7 @@ use lib.Signed.{lt_z}
 use mir.Syntax.{w16, w32}
 use mir.Val.{to_z, of_z}
 use mir.Facts.{to_z-of_z}
-use Rattle.laws.specs.Back.{came, via}
+use Rattle.laws.specs.Back.{via}
 use Rattle.synth.specs.Synth.{excite}
 use Rattle.synth.specs.FastLaws.{first_gain, second_gain}
 use Rattle.synth.proofs.excite.Goals as goal

@@ -7,7 +7,7 @@ use mir.Syntax.{w16, w32}
 use mir.Val.{to_z, of_z}
 use mir.Facts.{to_z-of_z, sfits_widen}
 use Rattle.laws.specs.Range.{fits_mul}
-use Rattle.laws.specs.Back.{came, via, keep}
+use Rattle.laws.specs.Back.{via, keep}
 use Rattle.basic_op.specs.Ops.{sat16}
 use Rattle.synth.specs.FastLaws.{excite_whole, excite_fits, excite_round_fits}
 use Rattle.synth.proofs.excite_whole.Goals as goal

@@ -1,5 +1,5 @@
 -- The answers of `synth_filter::both_sums`.
-use Prim.Native.Nat.{◌+◌, ◌-◌, ◌≤◌}
+use Prim.Native.Nat.{◌+◌, ◌-◌}
 use mathlib.Core.Path.{◌≡◌, refl, ap, ◌∙◌}
 use native.Mathlib.Omega.{arith}
 use lib.IntN.{◌-ℤ◌}
@@ -8,8 +8,8 @@ use mir.Syntax.{w16, w64}
 use mir.Val.{to_z, of_z}
 use mir.Facts.{to_z-of_z}
 use Rattle.laws.specs.Lists.{at}
-use Rattle.laws.specs.Back.{via, came}
-use Rattle.synth_filter.specs.Fast.{both, pairs, Past, Halves}
+use Rattle.laws.specs.Back.{via}
+use Rattle.synth_filter.specs.Fast.{both, pairs, Halves}
 use Rattle.synth_filter.specs.FastLaws.{past_none, past_turn}
 use Rattle.synth_filter.specs.Pairs.{pairs_at, pairs_size, halves_start, halves_turn, halves_fits}
 use Rattle.std.proofs.Common.{rules}

@@ -8,7 +8,7 @@ use mir.Syntax.{w16, w64}
 use mir.Val.{to_z, of_z}
 use mir.Facts.{to_z-of_z}
 use Rattle.laws.specs.Lists.{at}
-use Rattle.laws.specs.Back.{via, came}
+use Rattle.laws.specs.Back.{via}
 use Rattle.synth_filter.specs.Fast.{whole_sum, next_sum, size_sum, Past, Halves}
 use Rattle.laws.specs.Range.{mag_abs}
 use Rattle.synth_filter.specs.FastLaws.{past_turn}

@@ -1,11 +1,9 @@
 -- The answers of `synth_filter::pairs`.
-use Prim.Native.Nat.{◌+◌, ◌-◌, ◌≤◌}
-use mathlib.Core.Path.{◌≡◌, refl}
+use Prim.Native.Nat.{◌+◌, ◌-◌}
+use mathlib.Core.Path.{refl}
 use native.Mathlib.Omega.{arith}
-use lib.IntN.{pos}
-use lib.ListN.{replicate}
 use mir.Syntax.{w16, w64}
-use Rattle.laws.specs.Lists.{at, filled, filled_none, fill, filled_end}
+use Rattle.laws.specs.Lists.{at, filled_none, fill, filled_end}
 use Rattle.laws.specs.Back.{via2}
 use Rattle.synth_filter.specs.Fast.{both, pairs}
 use Rattle.std.proofs.Common.{rules}

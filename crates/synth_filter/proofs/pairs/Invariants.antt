@@ -1,13 +1,10 @@
 -- `synth_filter::pairs` meets its contract: the first k pairs are set.
 use Prim.Native.Nat.{◌+◌, ◌-◌, ◌≤◌}
-use mathlib.Core.Path.{◌≡◌, refl}
-use native.Mathlib.Omega.{arith}
+use mathlib.Core.Path.{◌≡◌}
 use lib.IntN.{pos}
 use lib.ListN.{replicate}
-use mir.Syntax.{w16, w64}
-use Rattle.laws.specs.Lists.{at, filled, filled_none, fill, filled_end}
-use Rattle.laws.specs.Back.{via2}
-use Rattle.synth_filter.specs.Fast.{both, pairs}
+use Rattle.laws.specs.Lists.{at, filled}
+use Rattle.synth_filter.specs.Fast.{both}
 use Rattle.synth_filter.proofs.pairs.Given as goal
 
 abbrev pub invariant-loop-k : goal.invariant-loop-k

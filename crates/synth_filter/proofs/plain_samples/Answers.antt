@@ -1,14 +1,10 @@
 -- The answers of `synth_filter::plain_samples`.
-use Prim.Native.Nat.{◌+◌, ◌-◌, ◌≤◌}
+use Prim.Native.Nat.{◌+◌, ◌-◌}
 use mathlib.Core.Path.{◌≡◌}
-use mathlib.Core.Bool.{false}
-use mathlib.Core.List.{List}
 use native.Mathlib.Omega.{arith}
-use lib.IntN.{ℤ}
 use mir.Syntax.{w16}
 use Rattle.laws.specs.Lists.{at}
 use Rattle.laws.specs.Back.{via}
-use Rattle.synth_filter.specs.Fast.{Reached}
 use Rattle.synth_filter.specs.Laws.{samples_turn, saturates_turn}
 use Rattle.std.proofs.Common.{rules}
 use Rattle.synth_filter.proofs.plain_samples.Goals as goal

@@ -1,15 +1,9 @@
 -- `synth_filter::plain_samples` meets its contract: before turn n the first n samples are written, if the first `done` were, and the flag says whether one of them saturated.
-use Prim.Native.Nat.{◌+◌, ◌-◌, ◌≤◌}
-use mathlib.Core.Path.{◌≡◌}
+use Prim.Native.Nat.{◌-◌, ◌≤◌}
 use mathlib.Core.Bool.{false}
 use mathlib.Core.List.{List}
-use native.Mathlib.Omega.{arith}
 use lib.IntN.{ℤ}
-use mir.Syntax.{w16}
-use Rattle.laws.specs.Lists.{at}
-use Rattle.laws.specs.Back.{via}
 use Rattle.synth_filter.specs.Fast.{Reached}
-use Rattle.synth_filter.specs.Laws.{samples_turn, saturates_turn}
 use Rattle.synth_filter.proofs.plain_samples.Given as goal
 
 abbrev pub invariant-loop-n : goal.invariant-loop-n

@@ -7,7 +7,7 @@ use lib.Signed.{shr_z}
 use mir.Syntax.{w64}
 use mir.Val.{to_z, of_z}
 use mir.Facts.{to_z-of_z}
-use Rattle.laws.specs.Back.{came, via}
+use Rattle.laws.specs.Back.{via}
 use Rattle.synth_filter.specs.Fast.{Range}
 use Rattle.synth_filter.specs.FastLaws.{range_of, round_fits, word_fits}
 use Rattle.synth_filter.proofs.rounded.Goals as goal

@@ -6,7 +6,7 @@ use mir.Syntax.{w16, w64}
 use mir.Val.{to_z, of_z}
 use mir.Facts.{to_z-of_z}
 use Rattle.laws.specs.Lists.{at}
-use Rattle.laws.specs.Back.{via, came}
+use Rattle.laws.specs.Back.{via}
 use Rattle.synth_filter.specs.Fast.{Rounded}
 use Rattle.synth_filter.specs.Pairs.{next_fits}
 use Rattle.synth_filter.proofs.second_of_two.Goals as goal

@@ -1,12 +1,7 @@
 -- `synth_filter::size_sum` meets its contract: before turn i the sum has the sizes of a0 to ai.
-use Prim.Native.Nat.{ℕ, ◌+◌, ◌-◌, ◌*◌, ◌≤◌}
-use mathlib.Core.Path.{◌≡◌, ap, ◌∙◌}
-use native.Mathlib.Omega.{arith}
-use mir.Syntax.{w16}
-use Rattle.laws.specs.Lists.{at}
-use Rattle.laws.specs.Loops.{steps, steps_turn}
-use Rattle.laws.specs.Back.{via}
-use Rattle.synth_filter.specs.Fast.{size, size_sum}
+use Prim.Native.Nat.{◌+◌, ◌-◌, ◌*◌, ◌≤◌}
+use mathlib.Core.Path.{◌≡◌}
+use Rattle.synth_filter.specs.Fast.{size_sum}
 use Rattle.synth_filter.proofs.size_sum.Given as goal
 
 abbrev pub invariant-loop-i : goal.invariant-loop-i

@@ -1,13 +1,12 @@
 -- The answers of `synth_filter::synth_sample`.
-use Prim.Native.Nat.{◌+◌, ◌-◌, ◌≤◌}
+use Prim.Native.Nat.{◌+◌, ◌-◌}
 use mathlib.Core.Path.{◌≡◌, ◌∙◌}
 use native.Mathlib.Omega.{arith}
 use mir.Syntax.{w16, w32}
-use mir.Val.{to_z}
 use mir.Facts.{to_z-of_z}
 use Rattle.laws.specs.Lists.{at}
 use Rattle.laws.specs.Loops.{steps}
-use Rattle.laws.specs.Back.{via, came}
+use Rattle.laws.specs.Back.{via}
 use Rattle.synth_filter.specs.Filter.{synth_sum, synth_sum_overflow}
 use Rattle.synth_filter.specs.Laws.{sum_turn, overflow_turn, sample_end, overflow_end}
 use Rattle.std.proofs.Common.{rules}

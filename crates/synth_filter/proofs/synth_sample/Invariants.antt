@@ -1,15 +1,8 @@
 -- `synth_filter::synth_sample` meets its contract: before turn i the sum has i of the past samples taken off, and the flag says whether an operation of it saturated.
-use Prim.Native.Nat.{◌+◌, ◌-◌, ◌≤◌}
-use mathlib.Core.Path.{◌≡◌, ◌∙◌}
-use native.Mathlib.Omega.{arith}
-use mir.Syntax.{w16, w32}
-use mir.Val.{to_z}
-use mir.Facts.{to_z-of_z}
+use Prim.Native.Nat.{◌-◌, ◌≤◌}
+use mathlib.Core.Path.{◌≡◌}
 use Rattle.laws.specs.Lists.{at}
-use Rattle.laws.specs.Loops.{steps}
-use Rattle.laws.specs.Back.{via, came}
 use Rattle.synth_filter.specs.Filter.{synth_sum, synth_sum_overflow}
-use Rattle.synth_filter.specs.Laws.{sum_turn, overflow_turn, sample_end, overflow_end}
 use Rattle.synth_filter.proofs.synth_sample.Given as goal
 
 abbrev pub invariant-loop-i : goal.invariant-loop-i

@@ -1,20 +1,9 @@
 -- `synth_filter::whole_samples` meets its contract: before turn i the first 2 i samples are written, none of them saturates, and `newest` is the last of them.
-use Prim.Native.Nat.{ℕ, ◌+◌, ◌-◌, ◌≤◌, ◌<◌}
-use mathlib.Core.Path.{◌≡◌, refl}
+use Prim.Native.Nat.{◌+◌, ◌-◌, ◌≤◌}
+use mathlib.Core.Path.{◌≡◌}
 use mathlib.Core.Bool.{false}
-use mathlib.Core.List.{List}
-use native.Mathlib.Omega.{arith}
-use lib.IntN.{ℤ}
-use lib.ListN.{set}
-use lib.Signed.{nat_abs-le}
-use mir.Syntax.{w16, w64}
-use mir.Val.{to_z, of_z}
-use mir.Facts.{to_z-of_z}
 use Rattle.laws.specs.Lists.{at}
-use Rattle.laws.specs.Back.{via}
-use Rattle.synth_filter.specs.Fast.{size_sum, Sampled, Reached}
-use Rattle.synth_filter.specs.FastLaws.{reached_none}
-use Rattle.synth_filter.specs.Pairs.{small_fits, sampled_next, reached_turn}
+use Rattle.synth_filter.specs.Fast.{Reached}
 use Rattle.synth_filter.proofs.whole_samples.Given as goal
 
 abbrev pub invariant-loop-i : goal.invariant-loop-i

@@ -1,7 +1,7 @@
 -- `tables::scalars` meets its contract: no scalar's place is past the last.
 use native.Mathlib.Omega.{arith}
 use mir.Syntax.{w16}
-use Rattle.laws.specs.Back.{came, via}
+use Rattle.laws.specs.Back.{via}
 use Rattle.tables.specs.Layout.{scalar}
 use Rattle.tables.specs.Laws.{place_small}
 use Rattle.tables.proofs.scalars.Goals as goal

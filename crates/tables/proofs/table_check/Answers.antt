@@ -3,7 +3,7 @@ use mathlib.Core.Path.{◌≡◌}
 use mathlib.Core.Bool.{Bool, true, false, cond}
 use borrow.Author.Tests.{eq-eqb, ne_eqb}
 use mir.Syntax.{w16}
-use Rattle.laws.specs.Back.{came, via}
+use Rattle.laws.specs.Back.{via}
 use Rattle.tables.specs.Layout.{table_check}
 use Rattle.tables.proofs.table_check.Goals as goal
 use Rattle.tables.proofs.table_check.Goals.{After-delay_in_range}

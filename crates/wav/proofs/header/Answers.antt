@@ -1,5 +1,4 @@
 -- `wav::header` meets its contract: its numbers, one behind another.
-use mathlib.Core.Path.{◌∙◌}
 use native.Mathlib.Omega.{arith}
 use Rattle.wav.specs.Laws.{header_whole}
 use Rattle.wav.proofs.header.Goals as goal

@@ -1,9 +1,9 @@
 -- The answers of `wav::last`.
 use mathlib.Core.Path.{◌≡◌}
-use Prim.Native.Nat.{◌-◌, ◌≤◌}
+use Prim.Native.Nat.{◌-◌}
 use native.Mathlib.Omega.{arith}
-use Rattle.laws.specs.Loops.{steps, steps_none, steps_turn}
-use Rattle.wav.specs.Wav.{Inside, next, last}
+use Rattle.laws.specs.Loops.{steps_none, steps_turn}
+use Rattle.wav.specs.Wav.{last}
 use Rattle.std.proofs.Common.{rules}
 use Rattle.wav.proofs.last.Goals as goal
 

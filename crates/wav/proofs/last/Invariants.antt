@@ -1,9 +1,8 @@
 -- `wav::last` meets its contract: behind each turn one chunk more is passed.
 use mathlib.Core.Path.{◌≡◌}
 use Prim.Native.Nat.{◌-◌, ◌≤◌}
-use native.Mathlib.Omega.{arith}
-use Rattle.laws.specs.Loops.{steps, steps_none, steps_turn}
-use Rattle.wav.specs.Wav.{Inside, next, last}
+use Rattle.laws.specs.Loops.{steps}
+use Rattle.wav.specs.Wav.{Inside, next}
 use Rattle.wav.proofs.last.Given as goal
 
 abbrev pub invariant-loop-i : goal.invariant-loop-i

@@ -2,7 +2,7 @@
 use mathlib.Core.Path.{sym, ap, ◌∙◌}
 use native.Mathlib.Omega.{arith}
 use lib.ListN.{length}
-use borrow.Author.Tests.{lt-ltb, le-ltb, not-true, not-false}
+use borrow.Author.Tests.{lt-ltb, le-ltb}
 use Rattle.wav.specs.declared.Found.{Found}
 use Rattle.wav.specs.Wav.{wrong, look}
 use Rattle.wav.specs.Laws.{rest}

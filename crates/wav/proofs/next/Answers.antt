@@ -16,16 +16,14 @@ returns-then-named c =
 
 pub returns-then-named-2 : goal.returns-then-named-2
 unfolding next
-returns-then-named-2 c =
-    (
-      sym (rw (le-ltb _ _ c.if-bytes-at-lt8.false, sym c.named.ensures ∙ c.if-named.false, sym c.named-2.ensures ∙ c.if-named-2.true, ← c.field.ensures, ← c.behind-to.ensures.0)),
-      record { chunk = c.behind-to.ensures.1; form = search rules },
-    )
+returns-then-named-2 c = (
+  sym (rw (le-ltb _ _ c.if-bytes-at-lt8.false, sym c.named.ensures ∙ c.if-named.false, sym c.named-2.ensures ∙ c.if-named-2.true, ← c.field.ensures, ← c.behind-to.ensures.0)),
+  record { chunk = c.behind-to.ensures.1; form = search rules },
+)
 
 pub returns : goal.returns
 unfolding next
-returns c =
-    (
-      sym (rw (le-ltb _ _ c.if-bytes-at-lt8.false, sym c.named.ensures ∙ c.if-named.false, sym c.named-2.ensures ∙ c.if-named-2.false, ← c.field.ensures, ← c.behind-to.ensures.0)),
-      record { chunk = c.behind-to.ensures.1; form = c.requires.form },
-    )
+returns c = (
+  sym (rw (le-ltb _ _ c.if-bytes-at-lt8.false, sym c.named.ensures ∙ c.if-named.false, sym c.named-2.ensures ∙ c.if-named-2.false, ← c.field.ensures, ← c.behind-to.ensures.0)),
+  record { chunk = c.behind-to.ensures.1; form = c.requires.form },
+)

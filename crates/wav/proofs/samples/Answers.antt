@@ -1,7 +1,7 @@
 -- `wav::samples` meets its contract: each test picks its case of the definition, and a chunk that has a name has a whole head.
 use mathlib.Core.Path.{sym, ap, ◌∙◌}
 use native.Mathlib.Omega.{arith}
-use borrow.Author.Tests.{not-true, not-false, eq-eqb, ne_eqb}
+use borrow.Author.Tests.{eq-eqb, ne_eqb}
 use Rattle.wav.specs.declared.Found.{Found}
 use Rattle.wav.specs.Wav.{wrong, samples}
 use Rattle.wav.specs.Laws.{named_room}

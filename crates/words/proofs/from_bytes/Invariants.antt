@@ -1,13 +1,9 @@
 -- `words::from_bytes` meets its contract: before turn i the first i words are done.
 use Prim.Native.Nat.{◌/◌, ◌-◌, ◌≤◌, min}
-use mathlib.Core.Path.{◌≡◌, refl, ◌∙◌}
-use native.Mathlib.Omega.{arith}
-use lib.ListN.{length, length-set}
-use mir.Syntax.{w16}
-use Rattle.laws.specs.Back.{came, via}
-use Rattle.laws.specs.Lists.{at, filled, filled_none, fill}
+use mathlib.Core.Path.{◌≡◌}
+use lib.ListN.{length}
+use Rattle.laws.specs.Lists.{at, filled}
 use Rattle.words.specs.Words.{words}
-use Rattle.words.specs.Laws.{word_here, from_end}
 use Rattle.words.proofs.from_bytes.Given as goal
 
 abbrev pub invariant-loop-i : goal.invariant-loop-i

@@ -1,10 +1,8 @@
 -- The answers of `words::number`.
-use Prim.Native.Nat.{◌*◌, ◌-◌, ◌^◌, ◌≤◌, ◌<◌, min}
-use mathlib.Core.Path.{◌≡◌}
+use Prim.Native.Nat.{◌-◌, min}
 use native.Mathlib.Omega.{arith}
-use lib.ListN.{length, take, drop}
+use lib.ListN.{length}
 use lib.Pow.{pow_pos}
-use Rattle.words.specs.Words.{number}
 use Rattle.words.specs.Laws.{room, fits, number_turn, number_none, number_end}
 use Rattle.words.proofs.number.Goals as goal
 

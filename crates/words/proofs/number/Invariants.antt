@@ -1,11 +1,8 @@
 -- `words::number` meets its contract: the loop goes from the last byte to the first, so that what is done is the number of the bytes from i on.
 use Prim.Native.Nat.{◌*◌, ◌-◌, ◌^◌, ◌≤◌, ◌<◌, min}
 use mathlib.Core.Path.{◌≡◌}
-use native.Mathlib.Omega.{arith}
 use lib.ListN.{length, take, drop}
-use lib.Pow.{pow_pos}
 use Rattle.words.specs.Words.{number}
-use Rattle.words.specs.Laws.{room, fits, number_turn, number_none, number_end}
 use Rattle.words.proofs.number.Given as goal
 
 abbrev pub invariant-loop-i : goal.invariant-loop-i

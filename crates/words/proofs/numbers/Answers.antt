@@ -1,10 +1,8 @@
 -- The answers of `words::numbers`.
-use Prim.Native.Nat.{◌-◌, ◌≤◌, min}
-use mathlib.Core.Path.{◌≡◌, refl}
-use mathlib.Core.List.{◌++◌}
+use Prim.Native.Nat.{◌-◌}
+use mathlib.Core.Path.{refl}
 use native.Mathlib.Omega.{arith}
-use lib.ListN.{length, length-set, take, drop}
-use Rattle.words.specs.Words.{read_numbers}
+use lib.ListN.{length-set}
 use Rattle.words.specs.Laws.{read_more, read_end}
 use Rattle.std.proofs.Common.{rules}
 use Rattle.words.proofs.numbers.Goals as goal

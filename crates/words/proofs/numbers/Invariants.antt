@@ -1,11 +1,9 @@
 -- `words::numbers` meets its contract: before turn i, i numbers are read, and the bytes from `at` on have the others.
 use Prim.Native.Nat.{◌-◌, ◌≤◌, min}
-use mathlib.Core.Path.{◌≡◌, refl}
+use mathlib.Core.Path.{◌≡◌}
 use mathlib.Core.List.{◌++◌}
-use native.Mathlib.Omega.{arith}
-use lib.ListN.{length, length-set, take, drop}
+use lib.ListN.{length, take, drop}
 use Rattle.words.specs.Words.{read_numbers}
-use Rattle.words.specs.Laws.{read_more, read_end}
 use Rattle.words.proofs.numbers.Given as goal
 
 abbrev pub invariant-loop-i : goal.invariant-loop-i

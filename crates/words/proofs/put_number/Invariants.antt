@@ -1,11 +1,9 @@
 -- `words::put_number` meets its contract: before turn i the first i bytes are done, and `rest` has the others.
 use Prim.Native.Nat.{◌-◌, ◌≤◌}
-use mathlib.Core.Path.{◌≡◌, refl}
+use mathlib.Core.Path.{◌≡◌}
 use mathlib.Core.List.{◌++◌}
-use native.Mathlib.Omega.{arith}
-use lib.ListN.{length, length-set, take}
+use lib.ListN.{length, take}
 use Rattle.words.specs.Words.{number_bytes}
-use Rattle.words.specs.Laws.{rest_none, rest_more, rest_end}
 use Rattle.words.proofs.put_number.Given as goal
 
 abbrev pub invariant-loop-i : goal.invariant-loop-i

@@ -1,10 +1,7 @@
 -- The answers of `words::put_numbers`.
-use Prim.Native.Nat.{◌-◌, ◌≤◌, min}
-use mathlib.Core.Path.{◌≡◌, refl}
-use mathlib.Core.List.{◌++◌}
+use Prim.Native.Nat.{◌-◌}
+use mathlib.Core.Path.{refl}
 use native.Mathlib.Omega.{arith}
-use lib.ListN.{length, take, drop}
-use Rattle.words.specs.Words.{put_numbers}
 use Rattle.words.specs.Laws.{put_more_numbers, put_end}
 use Rattle.std.proofs.Common.{rules}
 use Rattle.words.proofs.put_numbers.Goals as goal

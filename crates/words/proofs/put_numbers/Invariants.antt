@@ -1,11 +1,9 @@
 -- `words::put_numbers` meets its contract: before turn i, i numbers are written, up to place `at`.
 use Prim.Native.Nat.{◌-◌, ◌≤◌, min}
-use mathlib.Core.Path.{◌≡◌, refl}
+use mathlib.Core.Path.{◌≡◌}
 use mathlib.Core.List.{◌++◌}
-use native.Mathlib.Omega.{arith}
 use lib.ListN.{length, take, drop}
 use Rattle.words.specs.Words.{put_numbers}
-use Rattle.words.specs.Laws.{put_more_numbers, put_end}
 use Rattle.words.proofs.put_numbers.Given as goal
 
 abbrev pub invariant-loop-i : goal.invariant-loop-i

@@ -1,11 +1,8 @@
 -- `words::to_bytes` meets its contract: before turn i the bytes of i words are written.
 use Prim.Native.Nat.{◌/◌, ◌-◌, ◌≤◌, min}
-use mathlib.Core.Path.{◌≡◌, refl, ◌∙◌}
-use native.Mathlib.Omega.{arith}
-use lib.ListN.{length, length-set}
-use mir.Syntax.{w16}
-use Rattle.laws.specs.Back.{via}
-use Rattle.words.specs.Laws.{put, put_none, put_more, to_end}
+use mathlib.Core.Path.{◌≡◌}
+use lib.ListN.{length}
+use Rattle.words.specs.Laws.{put}
 use Rattle.words.proofs.to_bytes.Given as goal
 
 abbrev pub invariant-loop-i : goal.invariant-loop-i

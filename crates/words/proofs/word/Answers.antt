@@ -4,7 +4,7 @@ use mir.Syntax.{w16, w32}
 use mir.ValLaws.{to_z_pos}
 use native.Mathlib.Omega.{arith}
 use Rattle.basic_op.specs.Ops.{extract_l}
-use Rattle.laws.specs.Back.{came, via}
+use Rattle.laws.specs.Back.{via}
 use Rattle.words.specs.Words.{word}
 use Rattle.words.proofs.word.Goals as goal
 

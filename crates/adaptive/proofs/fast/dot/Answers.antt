@@ -1,10 +1,9 @@
 -- The answers of `adaptive::fast::dot`.
-use mathlib.Core.Path.{◌≡◌, refl, ap, ◌∙◌}
-use Prim.Native.Nat.{◌+◌, ◌-◌, ◌≤◌}
+use mathlib.Core.Path.{refl, ap, ◌∙◌}
+use Prim.Native.Nat.{◌+◌, ◌-◌}
 use native.Mathlib.Omega.{arith}
 use lib.IntN.{◌*ℤ◌}
 use mir.Syntax.{w16, w32}
-use mir.Val.{to_z}
 use mir.Facts.{to_z-of_z}
 use Rattle.laws.specs.Lists.{at}
 use Rattle.laws.specs.Loops.{steps}

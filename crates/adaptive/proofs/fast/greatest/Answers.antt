@@ -1,13 +1,11 @@
 -- The answers of `adaptive::fast::greatest`.
 use mathlib.Core.Path.{◌≡◌, ap, ◌∙◌}
-use Prim.Native.Nat.{◌+◌, ◌-◌, ◌≤◌}
+use Prim.Native.Nat.{◌+◌, ◌-◌}
 use native.Mathlib.Omega.{arith}
-use mathlib.Core.Logic.{⊎_elim}
 use lib.Signed.{mag}
 use mir.Syntax.{w16}
 use Rattle.laws.specs.Lists.{at}
 use Rattle.laws.specs.Back.{via}
-use Rattle.adaptive.specs.Fast.{Small}
 use Rattle.adaptive.specs.FastLaws.{small_next}
 use Rattle.std.proofs.Common.{rules}
 use Rattle.adaptive.proofs.fast.greatest.Goals as goal

@@ -1,12 +1,6 @@
 -- `adaptive::fast::size_sum` meets its contract: before turn j the sum is that of the first j taps, at most 2 ^ 15 each.
-use mathlib.Core.Path.{◌≡◌, refl, ap, ◌∙◌}
-use Prim.Native.Nat.{ℕ, ◌+◌, ◌-◌, ◌*◌, ◌≤◌}
-use native.Mathlib.Omega.{arith}
-use lib.Signed.{mag}
-use mir.Syntax.{w16}
-use Rattle.laws.specs.Lists.{at}
-use Rattle.laws.specs.Loops.{steps, steps_turn}
-use Rattle.laws.specs.Back.{via}
+use mathlib.Core.Path.{◌≡◌}
+use Prim.Native.Nat.{◌-◌, ◌*◌, ◌≤◌}
 use Rattle.adaptive.specs.Fast.{size_sum}
 use Rattle.adaptive.proofs.fast.size_sum.Given as goal
 

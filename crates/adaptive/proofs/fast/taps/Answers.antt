@@ -1,9 +1,7 @@
 -- The answers of `adaptive::fast::taps`.
-use mathlib.Core.Path.{◌≡◌, ap, ◌∙◌}
-use Prim.Native.Nat.{◌-◌, ◌≤◌}
+use mathlib.Core.Path.{ap, ◌∙◌}
+use Prim.Native.Nat.{◌-◌}
 use native.Mathlib.Omega.{arith}
-use lib.IntN.{pos}
-use lib.ListN.{replicate}
 use mir.Syntax.{w16}
 use Rattle.laws.specs.Lists.{at}
 use Rattle.laws.specs.Loops.{run, run_none, write, ended_from}

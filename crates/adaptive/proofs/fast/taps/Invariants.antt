@@ -1,14 +1,11 @@
 -- `adaptive::fast::taps` meets its contract: before turn j the first j taps are written.
-use mathlib.Core.Path.{◌≡◌, ap, ◌∙◌}
+use mathlib.Core.Path.{◌≡◌}
 use Prim.Native.Nat.{◌-◌, ◌≤◌}
-use native.Mathlib.Omega.{arith}
 use lib.IntN.{pos}
 use lib.ListN.{replicate}
-use mir.Syntax.{w16}
 use Rattle.laws.specs.Lists.{at}
-use Rattle.laws.specs.Loops.{run, run_none, write, ended_from}
-use Rattle.laws.specs.Back.{via}
-use Rattle.adaptive.specs.Fast.{tap, taps}
+use Rattle.laws.specs.Loops.{run}
+use Rattle.adaptive.specs.Fast.{tap}
 use Rattle.adaptive.proofs.fast.taps.Given as goal
 
 abbrev pub invariant-loop-j : goal.invariant-loop-j

@@ -1,7 +1,7 @@
 -- `adaptive::fast::word` meets its contract: no sum leaves its range, and the rounded half of the double is the shifted sum.
 use mir.Syntax.{w32}
 use mir.Facts.{to_z-of_z}
-use Rattle.laws.specs.Back.{came, via}
+use Rattle.laws.specs.Back.{via}
 use Rattle.adaptive.specs.FastLaws.{sums_fit, fits_rounded, filtered_is}
 use Rattle.std.proofs.Common.{rules}
 use Rattle.adaptive.proofs.fast.word.Goals as goal

@@ -8,9 +8,9 @@ use mir.Val.{to_z, of_z}
 use mir.Facts.{to_z-of_z}
 use Rattle.laws.specs.Loops.{write}
 use Rattle.laws.specs.Range.{within}
-use Rattle.laws.specs.Back.{came, via}
+use Rattle.laws.specs.Back.{via}
 use Rattle.basic_op.specs.Laws.{fits_within}
-use Rattle.adaptive.specs.Fast.{filtered, Small, Continues}
+use Rattle.adaptive.specs.Fast.{filtered}
 use Rattle.adaptive.specs.FastLaws.{small_part, small_set}
 use Rattle.std.proofs.Common.{rules}
 use Rattle.adaptive.proofs.fast.words.Goals as goal

@@ -1,17 +1,6 @@
 -- `adaptive::fast::words` meets its contract: before turn n it has gone from the first `start` words to the first n, and all that is read is small.
-use mathlib.Core.Path.{◌≡◌, ◌∙◌, ap}
-use Prim.Native.Nat.{ℕ, ◌+◌, ◌-◌, ◌≤◌}
-use native.Mathlib.Omega.{arith}
-use lib.Signed.{mag}
-use mir.Syntax.{w16, w32}
-use mir.Val.{to_z, of_z}
-use mir.Facts.{to_z-of_z}
-use Rattle.laws.specs.Loops.{write}
-use Rattle.laws.specs.Range.{within}
-use Rattle.laws.specs.Back.{came, via}
-use Rattle.basic_op.specs.Laws.{fits_within}
+use Prim.Native.Nat.{◌+◌, ◌-◌, ◌≤◌}
 use Rattle.adaptive.specs.Fast.{filtered, Small, Continues}
-use Rattle.adaptive.specs.FastLaws.{small_part, small_set}
 use Rattle.adaptive.proofs.fast.words.Given as goal
 
 abbrev pub invariant-loop-n : goal.invariant-loop-n

@@ -1,8 +1,7 @@
 -- The answers of `compare_step::slots::all_tried`.
-use Prim.Native.Nat.{◌*◌, ◌-◌, ◌≤◌}
+use Prim.Native.Nat.{◌*◌, ◌-◌}
 use mathlib.Core.Path.{◌≡◌, refl, ap, ◌∙◌}
 use native.Mathlib.Omega.{arith}
-use lib.ListN.{length}
 use Rattle.laws.specs.Loops.{steps, steps_none, steps_turn, ended_from}
 use Rattle.block.specs.Block.{put}
 use Rattle.block.specs.Laws.{length_put}

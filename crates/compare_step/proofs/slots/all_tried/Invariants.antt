@@ -1,12 +1,10 @@
 -- `slots::all_tried` meets its contract: before turn i the first i slots are behind the frame.
 use Prim.Native.Nat.{◌*◌, ◌-◌, ◌≤◌}
-use mathlib.Core.Path.{◌≡◌, refl, ap, ◌∙◌}
-use native.Mathlib.Omega.{arith}
+use mathlib.Core.Path.{◌≡◌}
 use lib.ListN.{length}
-use Rattle.laws.specs.Loops.{steps, steps_none, steps_turn, ended_from}
+use Rattle.laws.specs.Loops.{steps}
 use Rattle.block.specs.Block.{put}
-use Rattle.block.specs.Laws.{length_put}
-use Rattle.compare_step.specs.Slots.{slot_length, slot, tried, all_tried}
+use Rattle.compare_step.specs.Slots.{slot_length, slot, tried}
 use Rattle.compare_step.proofs.slots.all_tried.Given as goal
 
 abbrev pub invariant-loop-i : goal.invariant-loop-i

@@ -1,10 +1,9 @@
 -- The answers of `compare_step::slots::best`.
 use mathlib.Core.Path.{◌≡◌, ◌∙◌}
-use mathlib.Core.Logic.{⊎_elim}
 use mathlib.Core.Bool.{cond}
-use Prim.Native.Nat.{◌-◌, ◌≤◌, ◌<◌}
+use Prim.Native.Nat.{◌-◌}
 use mir.Syntax.{w16}
-use Rattle.laws.specs.Back.{came, via}
+use Rattle.laws.specs.Back.{via}
 use Rattle.laws.specs.Loops.{steps, steps_none, steps_turn, ended}
 use native.Mathlib.Omega.{arith}
 use lib.Signed.{lt_z}
@@ -16,8 +15,7 @@ use Rattle.compare_step.proofs.slots.best.Goals.{else-fit, then-fit}
 pub loop-i-preserved : goal.loop-i-preserved
 loop-i-preserved c =
     let y = c.fit-in-loop-i in
-    let x = c.fit in
-    (
+    let x = c.fit in (
       search rules,
       (
         elim c.if-fit.branch [ then-fit w ↦ rw w.j-is (omega arith) | else-fit w ↦ rw w.j-is c.loop-i.invariant.1.0 ],

@@ -1,14 +1,10 @@
 -- `slots::best` meets its contract: of the first i slots it is the first with the most.
-use mathlib.Core.Path.{◌≡◌, ◌∙◌}
-use mathlib.Core.Logic.{⊎_elim}
+use mathlib.Core.Path.{◌≡◌}
 use mathlib.Core.Bool.{cond}
 use Prim.Native.Nat.{◌-◌, ◌≤◌, ◌<◌}
-use mir.Syntax.{w16}
-use Rattle.laws.specs.Back.{came, via}
-use Rattle.laws.specs.Loops.{steps, steps_none, steps_turn, ended}
-use native.Mathlib.Omega.{arith}
+use Rattle.laws.specs.Loops.{steps}
 use lib.Signed.{lt_z}
-use Rattle.compare_step.specs.Slots.{fit, best}
+use Rattle.compare_step.specs.Slots.{fit}
 use Rattle.compare_step.proofs.slots.best.Given as goal
 
 abbrev pub invariant-loop-i : goal.invariant-loop-i

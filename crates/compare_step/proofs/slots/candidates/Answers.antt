@@ -1,12 +1,11 @@
 -- The answers of `compare_step::slots::candidates`.
-use Prim.Native.Nat.{◌*◌, ◌-◌, ◌≤◌}
+use Prim.Native.Nat.{◌*◌, ◌-◌}
 use mathlib.Core.Path.{◌≡◌, refl, ap, ◌∙◌}
 use native.Mathlib.Omega.{arith}
-use lib.ListN.{length}
 use Rattle.laws.specs.Loops.{steps, steps_none, steps_turn, ended_from}
 use Rattle.block.specs.Block.{put}
 use Rattle.block.specs.Laws.{length_put}
-use Rattle.compare_step.specs.Slots.{slot_length, candidate, candidates}
+use Rattle.compare_step.specs.Slots.{slot_length, candidates}
 use Rattle.std.proofs.Common.{rules}
 use Rattle.compare_step.proofs.slots.candidates.Goals as goal
 

@@ -1,12 +1,10 @@
 -- `slots::candidates` meets its contract: before turn i the first i slots are written.
 use Prim.Native.Nat.{◌*◌, ◌-◌, ◌≤◌}
-use mathlib.Core.Path.{◌≡◌, refl, ap, ◌∙◌}
-use native.Mathlib.Omega.{arith}
+use mathlib.Core.Path.{◌≡◌}
 use lib.ListN.{length}
-use Rattle.laws.specs.Loops.{steps, steps_none, steps_turn, ended_from}
+use Rattle.laws.specs.Loops.{steps}
 use Rattle.block.specs.Block.{put}
-use Rattle.block.specs.Laws.{length_put}
-use Rattle.compare_step.specs.Slots.{slot_length, candidate, candidates}
+use Rattle.compare_step.specs.Slots.{slot_length, candidate}
 use Rattle.compare_step.proofs.slots.candidates.Given as goal
 
 abbrev pub invariant-loop-i : goal.invariant-loop-i

@@ -1,6 +1,6 @@
 -- `slots::fits` meets its contract.
 use mir.Syntax.{w16}
-use Rattle.laws.specs.Back.{came, via}
+use Rattle.laws.specs.Back.{via}
 use Rattle.compare_step.proofs.slots.fits.Goals as goal
 
 pub returns : goal.returns

@@ -1,14 +1,10 @@
 -- The answers of `compare_step::slots::only_fitting`.
-use Prim.Native.Nat.{◌*◌, ◌-◌, ◌≤◌}
+use Prim.Native.Nat.{◌-◌}
 use mathlib.Core.Path.{◌≡◌, refl, ◌∙◌}
-use mathlib.Core.Bool.{cond}
-use mathlib.Core.List.{◌∷◌, []}
 use native.Mathlib.Omega.{arith}
-use lib.IntN.{negsuc}
 use lib.ListN.{length}
 use Rattle.laws.specs.Loops.{steps, steps_none, steps_turn, ended_from}
-use Rattle.block.specs.Block.{put}
-use Rattle.compare_step.specs.Slots.{slot_length, stays, only_fitting}
+use Rattle.compare_step.specs.Slots.{only_fitting}
 use Rattle.std.proofs.Common.{rules}
 use Rattle.compare_step.proofs.slots.only_fitting.Goals as goal
 

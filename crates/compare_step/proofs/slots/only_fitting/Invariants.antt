@@ -1,14 +1,13 @@
 -- `slots::only_fitting` meets its contract: before turn i the first i slots are looked at.
 use Prim.Native.Nat.{◌*◌, ◌-◌, ◌≤◌}
-use mathlib.Core.Path.{◌≡◌, refl, ◌∙◌}
+use mathlib.Core.Path.{◌≡◌}
 use mathlib.Core.Bool.{cond}
 use mathlib.Core.List.{◌∷◌, []}
-use native.Mathlib.Omega.{arith}
 use lib.IntN.{negsuc}
 use lib.ListN.{length}
-use Rattle.laws.specs.Loops.{steps, steps_none, steps_turn, ended_from}
+use Rattle.laws.specs.Loops.{steps}
 use Rattle.block.specs.Block.{put}
-use Rattle.compare_step.specs.Slots.{slot_length, stays, only_fitting}
+use Rattle.compare_step.specs.Slots.{slot_length, stays}
 use Rattle.compare_step.proofs.slots.only_fitting.Given as goal
 
 abbrev pub invariant-loop-i : goal.invariant-loop-i

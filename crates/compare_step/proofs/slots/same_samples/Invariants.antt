@@ -1,13 +1,7 @@
 -- `slots::same_samples` meets its contract: the first k samples are compared.
-use Prim.Native.Nat.{◌+◌, ◌-◌, ◌≤◌}
-use mathlib.Core.Path.{◌≡◌, ◌∙◌}
-use mathlib.Core.Logic.{⊎_elim}
-use native.Mathlib.Omega.{arith}
-use mir.Syntax.{w16}
-use Rattle.laws.specs.Lists.{at}
-use Rattle.laws.specs.Back.{via}
-use Rattle.laws.specs.Loops.{steps_none, steps_turn, ended}
-use Rattle.compare_step.specs.Slots.{same, same_samples}
+use Prim.Native.Nat.{◌-◌, ◌≤◌}
+use mathlib.Core.Path.{◌≡◌}
+use Rattle.compare_step.specs.Slots.{same_samples}
 use Rattle.compare_step.proofs.slots.same_samples.Given as goal
 
 abbrev pub invariant-loop-k : goal.invariant-loop-k

@@ -1,16 +1,12 @@
 -- The answers of `compare_step::slots::same_slot`.
-use mathlib.Core.Path.{◌≡◌, ◌∙◌}
-use mathlib.Core.Logic.{⊎_elim}
-use Prim.Native.Nat.{◌-◌, ◌≤◌}
+use mathlib.Core.Path.{◌∙◌}
+use Prim.Native.Nat.{◌-◌}
 use mir.Syntax.{w16}
-use Rattle.laws.specs.Back.{came, via}
+use Rattle.laws.specs.Back.{via}
 use Rattle.laws.specs.Loops.{nowhere, nowhere_none, nowhere_hit, nowhere_miss, ended}
 use native.Mathlib.Omega.{arith}
-use mathlib.Core.Bool.{◌||◌}
-use lib.Signed.{lt_z}
-use Prim.Native.Nat.{◌+◌, ◌*◌}
 use Rattle.laws.specs.Lists.{at}
-use Rattle.compare_step.specs.Slots.{slot_length, same_slot}
+use Rattle.compare_step.specs.Slots.{same_slot}
 use Rattle.std.proofs.Common.{rules}
 use Rattle.compare_step.proofs.slots.same_slot.Goals as goal
 use Rattle.compare_step.proofs.slots.same_slot.Goals.{else-a-b, then-a-b}
@@ -18,8 +14,7 @@ use Rattle.compare_step.proofs.slots.same_slot.Goals.{else-a-b, then-a-b}
 pub loop-k-preserved : goal.loop-k-preserved
 loop-k-preserved c =
     let y = c.word-b in
-    let x = c.word-a in
-    (
+    let x = c.word-a in (
       search rules,
       elim c.if-a-b.branch [ then-a-b w ↦ w.ok-is ∙ nowhere_hit _ _ (rw (via w16 x.result x.type_inv, via w16 y.result y.type_inv, x.ensures, y.ensures) at w.if-a-b.true) | else-a-b w ↦ w.ok-is ∙ nowhere_miss _ _ _ c.loop-k.invariant.1 (rw (via w16 x.result x.type_inv, via w16 y.result y.type_inv, x.ensures, y.ensures) at w.if-a-b.false) ],
     )

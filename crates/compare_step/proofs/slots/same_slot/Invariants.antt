@@ -1,16 +1,12 @@
 -- `slots::same_slot` meets its contract: the first k words are compared.
-use mathlib.Core.Path.{◌≡◌, ◌∙◌}
-use mathlib.Core.Logic.{⊎_elim}
+use mathlib.Core.Path.{◌≡◌}
 use Prim.Native.Nat.{◌-◌, ◌≤◌}
-use mir.Syntax.{w16}
-use Rattle.laws.specs.Back.{came, via}
-use Rattle.laws.specs.Loops.{nowhere, nowhere_none, nowhere_hit, nowhere_miss, ended}
-use native.Mathlib.Omega.{arith}
+use Rattle.laws.specs.Loops.{nowhere}
 use mathlib.Core.Bool.{◌||◌}
 use lib.Signed.{lt_z}
 use Prim.Native.Nat.{◌+◌, ◌*◌}
 use Rattle.laws.specs.Lists.{at}
-use Rattle.compare_step.specs.Slots.{slot_length, same_slot}
+use Rattle.compare_step.specs.Slots.{slot_length}
 use Rattle.compare_step.proofs.slots.same_slot.Given as goal
 
 abbrev pub invariant-loop-k : goal.invariant-loop-k

@@ -1,12 +1,9 @@
 -- The answers of `compare_step::slots::stays`.
 use mathlib.Core.Path.{◌≡◌, sym, ◌∙◌}
-use mathlib.Core.Logic.{⊎_elim}
-use mathlib.Core.Bool.{◌&&◌}
-use Prim.Native.Nat.{◌-◌, ◌≤◌}
+use Prim.Native.Nat.{◌-◌}
 use Rattle.laws.specs.Loops.{nowhere, nowhere_none, nowhere_hit, nowhere_miss, ended}
 use native.Mathlib.Omega.{arith}
-use borrow.Author.Tests.{not-true, not-false}
-use Rattle.compare_step.specs.Slots.{fits, same_slot, stays}
+use Rattle.compare_step.specs.Slots.{fits, stays}
 use Rattle.std.proofs.Common.{rules}
 use Rattle.compare_step.proofs.slots.stays.Goals as goal
 use Rattle.compare_step.proofs.slots.stays.Goals.{else-repeated, then-repeated}
@@ -17,8 +14,7 @@ returns-then-not-fits c = rw (← c.fits.ensures, c.if-not-fits.true)
 
 pub loop-j-preserved : goal.loop-j-preserved
 loop-j-preserved c =
-    let r = c.repeated in
-    (
+    let r = c.repeated in (
       search rules,
       elim c.if-repeated.branch [ then-repeated w ↦ w.ok-is ∙ nowhere_hit _ _ (sym r.ensures ∙ w.if-repeated.true) | else-repeated w ↦ w.ok-is ∙ nowhere_miss _ _ _ c.loop-j.invariant.1 (sym r.ensures ∙ w.if-repeated.false) ],
     )

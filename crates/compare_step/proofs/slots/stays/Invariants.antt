@@ -1,12 +1,9 @@
 -- `slots::stays` meets its contract: before turn j the first j slots are compared.
-use mathlib.Core.Path.{◌≡◌, sym, ◌∙◌}
-use mathlib.Core.Logic.{⊎_elim}
+use mathlib.Core.Path.{◌≡◌}
 use mathlib.Core.Bool.{◌&&◌}
 use Prim.Native.Nat.{◌-◌, ◌≤◌}
-use Rattle.laws.specs.Loops.{nowhere, nowhere_none, nowhere_hit, nowhere_miss, ended}
-use native.Mathlib.Omega.{arith}
-use borrow.Author.Tests.{not-true, not-false}
-use Rattle.compare_step.specs.Slots.{fits, same_slot, stays}
+use Rattle.laws.specs.Loops.{nowhere}
+use Rattle.compare_step.specs.Slots.{fits, same_slot}
 use Rattle.compare_step.proofs.slots.stays.Given as goal
 
 abbrev pub invariant-loop-j : goal.invariant-loop-j

@@ -1,6 +1,4 @@
 -- `slots::vacate` meets its contract.
-use native.Mathlib.Omega.{arith}
-use borrow.Author.Tests.{not-true, not-false}
 use Rattle.compare_step.proofs.slots.vacate.Goals as goal
 
 pub returns-then-not-stays : goal.returns-then-not-stays

@@ -1,5 +1,5 @@
 -- `job::names::aside` meets its contract: the path, and `.new` behind it.
-use Rattle.std.proofs.Common.{arith, rules}
+use Rattle.std.proofs.Common.{arith}
 use Rattle.job.specs.Laws.{aside_short, aside_done}
 use Rattle.job.proofs.names.aside.Goals as goal
 

@@ -1,6 +1,5 @@
 -- The answers of `job::names::folder`.
-use Rattle.std.proofs.Common.{◌≡◌, ◌≤◌, length, take, arith, rules}
-use Rattle.job.specs.Names.{folder}
+use Rattle.std.proofs.Common.{arith, rules}
 use Rattle.job.specs.Laws.{folder_here, folder_not, folder_all, folder_none}
 use Rattle.std.proofs.Common.{rules}
 use Rattle.job.proofs.names.folder.Goals as goal

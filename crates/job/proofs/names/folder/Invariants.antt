@@ -1,7 +1,6 @@
 -- `job::names::folder` meets its contract: no `/` stands from n on.
-use Rattle.std.proofs.Common.{◌≡◌, ◌≤◌, length, take, arith, rules}
+use Rattle.std.proofs.Common.{◌≡◌, ◌≤◌, length, take}
 use Rattle.job.specs.Names.{folder}
-use Rattle.job.specs.Laws.{folder_here, folder_not, folder_all, folder_none}
 use Rattle.job.proofs.names.folder.Given as goal
 
 abbrev pub invariant-loop-n : goal.invariant-loop-n

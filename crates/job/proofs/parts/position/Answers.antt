@@ -1,5 +1,5 @@
 -- `job::parts::position` meets its contract.
-use Rattle.std.proofs.Common.{pos, ap, ◌∙◌, arith, w64, rules}
+use Rattle.std.proofs.Common.{pos, ap, ◌∙◌, arith, w64}
 use mir.ValLaws.{to_z_pos}
 use Rattle.job.specs.Part.{position}
 use Rattle.job.proofs.parts.position.Goals as goal

@@ -1,5 +1,4 @@
 -- `job::parts::read_again` meets its contract.
-use Rattle.std.proofs.Common.{rules}
 use Rattle.job.specs.PartLaws.{again_is}
 use Rattle.job.proofs.parts.read_again.Goals as goal
 

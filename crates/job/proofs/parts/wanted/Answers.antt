@@ -1,6 +1,6 @@
 -- The answers of `job::parts::wanted`.
-use Rattle.std.proofs.Common.{◌≡◌, ◌-◌, ◌≤◌, length, drop, refl, arith, rules}
-use Rattle.job.specs.Part.{no_number, digits}
+use Rattle.std.proofs.Common.{◌-◌, refl, arith, rules}
+use Rattle.job.specs.Part.{no_number}
 use Rattle.job.specs.PartLaws.{wanted_none, wanted_low, wanted_high, wanted_more, wanted_end}
 use Rattle.std.proofs.Common.{rules}
 use Rattle.job.proofs.parts.wanted.Goals as goal
@@ -20,11 +20,10 @@ returns-then-b-gt57 c =
     wanted_high c.args.text.now c.loop-i.i c.loop-i.n (omega arith) c.loop-i.invariant.1 c.if-b-lt48.false c.if-b-gt57.true
 
 pub loop-i-preserved : goal.loop-i-preserved
-loop-i-preserved c =
-    (
-      omega arith,
-      wanted_more c.args.text.now c.loop-i.i c.loop-i.n (omega arith) c.loop-i.invariant.1 _ c.if-b-lt48.false c.if-b-gt57.false c.further-n.ensures,
-    )
+loop-i-preserved c = (
+  omega arith,
+  wanted_more c.args.text.now c.loop-i.i c.loop-i.n (omega arith) c.loop-i.invariant.1 _ c.if-b-lt48.false c.if-b-gt57.false c.further-n.ensures,
+)
 
 pub returns : goal.returns
 returns c =

@@ -1,7 +1,6 @@
 -- `job::parts::wanted` meets its contract: what is left to read is the digits from i on, behind the number so far.
-use Rattle.std.proofs.Common.{◌≡◌, ◌-◌, ◌≤◌, length, drop, refl, arith, rules}
-use Rattle.job.specs.Part.{no_number, digits}
-use Rattle.job.specs.PartLaws.{wanted_none, wanted_low, wanted_high, wanted_more, wanted_end}
+use Rattle.std.proofs.Common.{◌≡◌, ◌-◌, ◌≤◌, length, drop}
+use Rattle.job.specs.Part.{digits}
 use Rattle.job.proofs.parts.wanted.Given as goal
 
 abbrev pub invariant-loop-i : goal.invariant-loop-i

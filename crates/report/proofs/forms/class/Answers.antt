@@ -29,9 +29,8 @@ returns-then-t-eq-KNOWN c =
 
 pub returns : goal.returns
 unfolding class
-returns c =
-    (
-      omega (arith, c.figure-a.ensures.0, c.signed-b.ensures.0, c.put-2.ensures.place),
-      rw (ne_eqb _ _ c.if-t-eq-CONCEALED.false, ne_eqb _ _ c.if-t-eq-SETTLING.false, ne_eqb _ _ c.if-t-eq-UNCLEAN.false, ne_eqb _ _ c.if-t-eq-KNOWN.false)
-          (then (then c.figure-a.ensures.1 (rw (via w32 _ c.struct_told-1.given.1.1.0.1) at c.signed-b.ensures.1)) c.put-2.ensures),
-    )
+returns c = (
+  omega (arith, c.figure-a.ensures.0, c.signed-b.ensures.0, c.put-2.ensures.place),
+  rw (ne_eqb _ _ c.if-t-eq-CONCEALED.false, ne_eqb _ _ c.if-t-eq-SETTLING.false, ne_eqb _ _ c.if-t-eq-UNCLEAN.false, ne_eqb _ _ c.if-t-eq-KNOWN.false)
+      (then (then c.figure-a.ensures.1 (rw (via w32 _ c.struct_told-1.given.1.1.0.1) at c.signed-b.ensures.1)) c.put-2.ensures),
+)

@@ -7,8 +7,7 @@ use Rattle.report.proofs.forms.total.Goals as goal
 
 pub returns : goal.returns
 unfolding total
-returns c =
-    (
-      omega (arith, c.figure-a.ensures.0, c.figure-b.ensures.0, c.figure-c.ensures.0, c.figure-d.ensures.0, c.figure-e.ensures.0, c.labelled.ensures.0),
-      front (then (then (then (then (then c.figure-a.ensures.1 c.figure-b.ensures.1) c.figure-c.ensures.1) c.figure-d.ensures.1) c.figure-e.ensures.1) c.labelled.ensures.1),
-    )
+returns c = (
+  omega (arith, c.figure-a.ensures.0, c.figure-b.ensures.0, c.figure-c.ensures.0, c.figure-d.ensures.0, c.figure-e.ensures.0, c.labelled.ensures.0),
+  front (then (then (then (then (then c.figure-a.ensures.1 c.figure-b.ensures.1) c.figure-c.ensures.1) c.figure-d.ensures.1) c.figure-e.ensures.1) c.labelled.ensures.1),
+)

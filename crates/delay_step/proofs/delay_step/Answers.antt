@@ -1,0 +1,24 @@
+-- `delay_step::delay_step` meets its contract, by Line's two answers.
+use native.Mathlib.Omega.{arith}
+use Rattle.kind.specs.Laws.{payload_few}
+use Rattle.delay_step.specs.Step.{kept}
+use Rattle.delay_step.specs.Laws.{stop_given, not_line, is_line}
+use Rattle.delay_step.proofs.delay_step.Goals as goal
+
+pub returns-in-Refused : goal.returns-in-Refused
+returns-in-Refused c =
+    let s = c.args in
+    record {
+      out_after = rw (not_line (kept s.carried.now s.from) s.text.now c.in-Refused.is c.line-answer.ensures)
+          (stop_given s.carried.now s.from _ s.out.now c.stopped.ensures.0 c.stopped.ensures.1);
+      written_bound = omega (arith, c.stopped.ensures.1);
+    }
+
+pub slice_bounds-frame_step-end : goal.slice_bounds-frame_step-end
+slice_bounds-frame_step-end c =
+    omega (arith, c.payload_length-n.ensures, payload_few c.in-Frame.kind, c.line-answer.auto.payload)
+
+pub returns-in-Frame : goal.returns-in-Frame
+returns-in-Frame c =
+    let s = c.args in
+    record { out_after = rw (is_line (kept s.carried.now s.from) s.text.now c.in-Frame.is c.line-answer.ensures c.payload_length-n.ensures) c.frame_step.ensures.out_after; written_bound = c.frame_step.ensures.written_bound }
