@@ -1,15 +1,17 @@
-# Installs the library for C: header, archive, shared library, pkg-config file. The programs are built by rt (README.md).
+# Installs the library for C: header, archive, shared library, pkg-config file. Builds the programs, which stay as crates/NAME/out/NAME.
 #
 #     make && sudo make install      # to /usr/local, or PREFIX=FOLDER; below DESTDIR=FOLDER for a package
 #     sudo make uninstall
+#     make programs
 #
-# The archive is made by `rt staticlib holdamek`, or is the one in HOLDAMEK_LIB=FOLDER.
+# The archive is made by `rt lib` in crates/holdamek, or is the one in HOLDAMEK_LIB=FOLDER.
 PREFIX = /usr/local
 INCLUDEDIR = $(PREFIX)/include
 LIBDIR = $(PREFIX)/lib
 DOCDIR = $(PREFIX)/share/doc/holdamek
-HOLDAMEK_LIB ?= target/staticlib
+HOLDAMEK_LIB ?= crates/holdamek/out
 RT ?= rt
+PROGRAMS = decode resume compare payloads g711_leg conference depths delays
 
 VERSION := $(shell sed -n 's/.*HOLDAMEK_VERSION "\(.*\)"/\1/p' include/holdamek.h)
 # before 1.0 a version that raises the second number may change arguments
@@ -22,8 +24,12 @@ documents := $(DESTDIR)$(DOCDIR)
 
 all: $(archive)
 
-target/staticlib/libholdamek.a: crates.txt $(shell find crates -name '*.rt' -o -name '*.antt')
-	$(RT) staticlib holdamek
+crates/holdamek/out/libholdamek.a: crates.txt $(shell find crates -name out -prune -o \( -name '*.rt' -o -name '*.antt' \) -print)
+	cd crates/holdamek && $(RT) lib
+
+# rt proves a program, builds it and runs it.
+programs:
+	for program in $(PROGRAMS); do (cd crates/$$program && $(RT) run -- --version) || exit 1; done
 
 # The archive's code is position independent, and its only global symbols are the functions of the header.
 install: $(archive)
@@ -44,4 +50,4 @@ uninstall:
 		"$(libraries)/pkgconfig/holdamek.pc" "$(documents)/NOTICE"
 	-rmdir "$(documents)"
 
-.PHONY: all install uninstall
+.PHONY: all programs install uninstall

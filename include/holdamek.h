@@ -1,6 +1,6 @@
 /* Holdamek: the six operations of a G.729 voice path, the delays of frames with their rules, the writing of lines and of voice frames, the frames of an RTP payload, G.711 legs, what each leg of a
  * conference heard, the trying of playout depths, the agreement of two decoders and the comparison with a far one, as C functions (x86-64 Linux; C99 or later, C++).
- * `rt staticlib holdamek` makes target/staticlib/libholdamek.a:  cc -Iinclude program.c target/staticlib/libholdamek.a
+ * `rt lib` in crates/holdamek makes libholdamek.a:  cc -Iinclude program.c crates/holdamek/out/libholdamek.a
  * Installed (`make install`):  cc program.c $(pkg-config --cflags --libs holdamek)
  *
  * Each function returns 0 or the number of the first refusal that applies, in the order of its list below. The two for RTP payloads, holdamek_payload_frames

@@ -2,14 +2,14 @@
 import atexit, os, random, shutil, stat, subprocess, sys, tempfile
 
 ROOT = os.path.dirname(os.path.dirname(os.path.abspath(__file__)))
-RESUME = os.path.abspath(os.environ.get("RESUME", os.path.join(ROOT, "target/bin/resume")))
-COMPARE = os.path.abspath(os.environ.get("COMPARE", os.path.join(ROOT, "target/bin/compare")))
-PAYLOADS = os.path.abspath(os.environ.get("PAYLOADS", os.path.join(ROOT, "target/bin/payloads")))
-G711_LEG = os.path.abspath(os.environ.get("G711_LEG", os.path.join(ROOT, "target/bin/g711_leg")))
-CONFERENCE = os.path.abspath(os.environ.get("CONFERENCE", os.path.join(ROOT, "target/bin/conference")))
-DEPTHS = os.path.abspath(os.environ.get("DEPTHS", os.path.join(ROOT, "target/bin/depths")))
-DELAYS = os.path.abspath(os.environ.get("DELAYS", os.path.join(ROOT, "target/bin/delays")))
-DECODE = os.path.abspath(os.environ.get("DECODE", os.path.join(ROOT, "target/bin/decode")))
+RESUME = os.path.abspath(os.environ.get("RESUME", os.path.join(ROOT, "crates/resume/out/resume")))
+COMPARE = os.path.abspath(os.environ.get("COMPARE", os.path.join(ROOT, "crates/compare/out/compare")))
+PAYLOADS = os.path.abspath(os.environ.get("PAYLOADS", os.path.join(ROOT, "crates/payloads/out/payloads")))
+G711_LEG = os.path.abspath(os.environ.get("G711_LEG", os.path.join(ROOT, "crates/g711_leg/out/g711_leg")))
+CONFERENCE = os.path.abspath(os.environ.get("CONFERENCE", os.path.join(ROOT, "crates/conference/out/conference")))
+DEPTHS = os.path.abspath(os.environ.get("DEPTHS", os.path.join(ROOT, "crates/depths/out/depths")))
+DELAYS = os.path.abspath(os.environ.get("DELAYS", os.path.join(ROOT, "crates/delays/out/delays")))
+DECODE = os.path.abspath(os.environ.get("DECODE", os.path.join(ROOT, "crates/decode/out/decode")))
 TABLES = os.path.join(ROOT, "examples/tables.g729")
 VERSION = b"holdamek 0.10.0\n"
 
