@@ -33,9 +33,9 @@ fn left(f: &[i16], row: usize, found: GainState, tally: &mut [u32; 64]) {
 }
 
 pub(crate) fn voice(p: SpeechParams, t: &[i16], s: &[i16], f: &[i16], tally: &mut [u32; 64]) {
-    let first = gain::decode(t, state(s), p.ga1, p.gb1, block::vector(f, 133));
+    let first = gain::decode(t, state(s), p.ga1, p.gb1, vectors::vector(f, 133));
     gains(f, 89, rows::DECODE_GAIN, first, tally);
-    let second = gain::decode(t, first, p.ga2, p.gb2, block::vector(f, 301));
+    let second = gain::decode(t, first, p.ga2, p.gb2, vectors::vector(f, 301));
     gains(f, 257, rows::DECODE_GAIN, second, tally);
     left(f, rows::DECODE_GAIN, second, tally);
 }
