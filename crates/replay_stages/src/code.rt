@@ -2,7 +2,7 @@
 // `t`: the tables; `s`: the state before the frame; `f`: the words of the frame's line; `at`: the place of a subframe there.
 ghost use Rattle.std.specs.Prelude.{◌≤◌};
 
-use crate::{block, rows};
+use crate::{rows, vectors};
 use bitstream::SpeechParams;
 use pitch::{PitchState, Tracked};
 use replay::{part, tally};

@@ -1,6 +1,6 @@
 // Gains and the factor of pitch sharpening: clauses 3.8, 3.9, 4.1.5, 4.4.2 and 4.4.3.
 // `t`: the tables; `s`: the state before the frame; `f`: the words of the frame's line.
-use crate::{block, rows};
+use crate::{rows, vectors};
 use bitstream::SpeechParams;
 use gain::GainState;
 use replay::{part, tally};

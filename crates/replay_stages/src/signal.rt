@@ -2,7 +2,7 @@
 // `t`: the tables; `f`: the words of the frame's line; `at`: the place of the subframe there.
 ghost use Rattle.std.specs.Prelude.{◌+◌, ◌≤◌, length};
 
-use crate::{block, rows};
+use crate::{rows, vectors};
 use replay::{part, tally};
 
 // The place of a subframe in the excitation.

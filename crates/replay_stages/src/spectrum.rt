@@ -1,6 +1,6 @@
 // The stages from the fields to the coefficients: clauses 3.2.4 to 3.2.6, 4.1.1 and 4.4.1.
 // `t`: the tables; `s`: the state before the frame; `f`: the words of the frame's line.
-use crate::{block, rows};
+use crate::{rows, vectors};
 use bitstream::SpeechParams;
 use replay::{part, tally};
 
