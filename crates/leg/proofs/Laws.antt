@@ -25,14 +25,14 @@ module _ (law : ℕ) (lent : List ℕ) (l : List ℤ) (h : length l ≤ length l
   told c = by (known law) (all_values law l) refl refl
     where
       by : (p q : Bool) → known law ≡ p → all_values law l ≡ q → answer code 0 (v ++ drop (length l) lent) ≡ back_to law l lent
-      by true true f g = let z = by_values true true f g in absurd (c (cc))
+      by true true f g = let z = by_values law lent l h e true true f g in absurd (c (cc))
       by true false f g =
-          let z = by_values true false f g in
+          let z = by_values law lent l h e true false f g in
           let x : code ≡ 17 = cc in
           let y : v ≡ take (length l) lent = cc in
           rw (x, y, take-append-drop (length l) lent, f, g, ne_eqb (length l) 0 (some law l g))
       by false q f g =
-          let z = by_values false q f g in
+          let z = by_values law lent l h e false q f g in
           let x : code ≡ 16 = cc in
           let y : v ≡ take (length l) lent = cc in
           rw (x, y, take-append-drop (length l) lent, f)
@@ -53,4 +53,4 @@ module _ (law : ℕ) (t lent : List ℕ) (zeros : List ℤ) {n : ℕ} {found : L
     (e : written code v ≡ write_call law (take (n - 0) found) (take (n - 0) lent)) where
   pub bytes_told : (code ≡ 0 → ⊥) → answer code 0 (v ++ drop (n - 0) lent) ≡ bytes_of law t lent
   unfolding bytes_of
-  bytes_told c = rw as_many (told law lent (samples t) (omega (arith, as_many)) given c)
+  bytes_told c = let m : n - 0 ≡ length (samples t) = as_many law t lent zeros f h e in rw m (told law lent (samples t) (omega (arith, m)) (given law t lent zeros f h e) c)

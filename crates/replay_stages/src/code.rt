@@ -2,7 +2,7 @@
 // `t`: the tables; `s`: the state before the frame; `f`: the words of the frame's line; `at`: the place of a subframe there.
 ghost use Rattle.std.specs.Prelude.{◌≤◌};
 
-use crate::{block, rows};
+use crate::{rows, vectors};
 use bitstream::SpeechParams;
 use pitch::{PitchState, Tracked};
 use replay::{part, tally};
@@ -79,7 +79,7 @@ fn codevectors(t: &[i16], f: &[i16], at: usize, tally: &mut [u32; 64])
     tally::words(tally, rows::CODEVECTOR, f, at + 4, &code);
     let delay = part::word(f, at, 0);
     let beta = part::word(f, at, 86);
-    let sharpened = fixed::sharpen(block::vector(f, at + 4), delay, beta);
+    let sharpened = fixed::sharpen(vectors::vector(f, at + 4), delay, beta);
     tally::words(tally, rows::SHARPEN, f, at + 44, &sharpened);
 }
 

@@ -1,6 +1,6 @@
 // Gains and the factor of pitch sharpening: clauses 3.8, 3.9, 4.1.5, 4.4.2 and 4.4.3.
 // `t`: the tables; `s`: the state before the frame; `f`: the words of the frame's line.
-use crate::{block, rows};
+use crate::{rows, vectors};
 use bitstream::SpeechParams;
 use gain::GainState;
 use replay::{part, tally};
@@ -33,9 +33,9 @@ fn left(f: &[i16], row: usize, found: GainState, tally: &mut [u32; 64]) {
 }
 
 pub(crate) fn voice(p: SpeechParams, t: &[i16], s: &[i16], f: &[i16], tally: &mut [u32; 64]) {
-    let first = gain::decode(t, state(s), p.ga1, p.gb1, block::vector(f, 133));
+    let first = gain::decode(t, state(s), p.ga1, p.gb1, vectors::vector(f, 133));
     gains(f, 89, rows::DECODE_GAIN, first, tally);
-    let second = gain::decode(t, first, p.ga2, p.gb2, block::vector(f, 301));
+    let second = gain::decode(t, first, p.ga2, p.gb2, vectors::vector(f, 301));
     gains(f, 257, rows::DECODE_GAIN, second, tally);
     left(f, rows::DECODE_GAIN, second, tally);
 }

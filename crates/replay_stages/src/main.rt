@@ -5,12 +5,12 @@
 
 ghost use Rattle.std.specs.Prelude.{◌<◌};
 
-mod block;
 mod code;
 mod gains;
 mod rows;
 mod signal;
 mod spectrum;
+mod vectors;
 
 use bitstream::SpeechParams;
 use plc::Decision;

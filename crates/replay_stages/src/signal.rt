@@ -2,7 +2,7 @@
 // `t`: the tables; `f`: the words of the frame's line; `at`: the place of the subframe there.
 ghost use Rattle.std.specs.Prelude.{◌+◌, ◌≤◌, length};
 
-use crate::{block, rows};
+use crate::{rows, vectors};
 use replay::{part, tally};
 
 // The place of a subframe in the excitation.
@@ -39,7 +39,7 @@ fn adaptive_vector(
         part::word(f, at, 0),
         part::word(f, at, 1),
     );
-    let v = block::vector(exc, start(second));
+    let v = vectors::vector(exc, start(second));
     tally::words(tally, rows::VECTOR, f, at + 87, &v);
     put(f, at + 87, start(second), exc);
 }
@@ -48,7 +48,7 @@ fn adaptive_vector(
 fn excitation(f: &[i16], at: usize, second: bool, exc: &mut [i16; 234], tally: &mut [u32; 64])
     requires { at ≤ 257 }
 {
-    let code = block::vector(f, at + 44);
+    let code = vectors::vector(f, at + 44);
     synth::excitation(
         exc,
         second,
@@ -56,7 +56,7 @@ fn excitation(f: &[i16], at: usize, second: bool, exc: &mut [i16; 234], tally: &
         part::word(f, at, 84),
         part::word(f, at, 85),
     );
-    let u = block::vector(exc, start(second));
+    let u = vectors::vector(exc, start(second));
     tally::words(tally, rows::EXCITATION, f, at + 127, &u);
     put(f, at + 127, start(second), exc);
 }
@@ -94,7 +94,7 @@ fn subframe(
     let mut speech = before.speech;
     adaptive_vector(t, f, at, second, &mut exc, tally);
     excitation(f, at, second, &mut exc, tally);
-    let a = block::coefficients(f, coefficients(second));
+    let a = vectors::coefficients(f, coefficients(second));
     let over = saturated(a, exc, second, speech);
     tally::number(tally, rows::SYNTHESIZE, f, at + 167, over as u16);
     synth::reconstruct(&a, &mut exc, second, &mut speech);
@@ -112,8 +112,8 @@ fn left(f: &[i16], signal: Signal, tally: &mut [u32; 64]) {
 
 pub(crate) fn frame(t: &[i16], s: &[i16], f: &[i16], tally: &mut [u32; 64]) {
     let before = Signal {
-        exc: block::excitation(s),
-        speech: block::speech(s),
+        exc: vectors::excitation(s),
+        speech: vectors::speech(s),
     };
     let first = subframe(t, f, 89, false, before, tally);
     let second = subframe(t, f, 257, true, first, tally);

@@ -1,4 +1,4 @@
--- A call that is read through `read_step` (01, "The call text and the program"): what its reads write, and the last form, are `output` of the table file and the text. Proved in proofs/Reads.antt. Assumes nothing.
+-- A call that is read through `read_step` (01, "The call text and the program"): what its reads write, and the last form, are `output` of the table file and the text. Proved in proofs/ReadsProof.antt. Assumes nothing.
 use Rattle.std.specs.Prelude.{◌≡◌, ℕ, ◌+◌, ◌≤◌, ◌<◌, ℤ, length, take, drop, replicate}
 use Rattle.std.proofs.Common.{arith}
 use mathlib.Core.List.{List, [], ◌++◌}

@@ -17,4 +17,4 @@ use Rattle.whole_job.specs.Resume.{Good, has_sum, has_call}
 module _ (file text all : List ℕ) (b : List ℤ) (p : Saved) (out : List ℕ) (good : Good file text all b p out)
     (a : Bytes file) (c : Bytes text) (n : length b ≡ 234) (w : (k : ℕ) → mag (at b k) < 32768) (lent : List ℤ) where
   pub good_file : read (pack b p) (crc32 file) lent ≡ answer (Job p) b
-  good_file = ap (λ (s : ℕ). read (pack b p) s lent) (sym good.of_tables) ∙ pack_read b p n w good.able has_sum has_call lent good.accepted
+  good_file = ap (λ (s : ℕ). read (pack b p) s lent) (sym good.of_tables) ∙ pack_read b p n w good.able (has_sum file text all b p out good a c n w lent) (has_call file text all b p out good a c n w lent) lent good.accepted
