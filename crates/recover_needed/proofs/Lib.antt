@@ -1,0 +1,2 @@
+-- The proof of Needed.
+pub mod Witness
