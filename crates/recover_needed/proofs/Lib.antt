@@ -1,2 +1,2 @@
--- The proof of Needed.
+-- What specs/Needed.antt states, proved.
 pub mod Witness
