@@ -215,6 +215,44 @@ pub(crate) fn rewrite_all(
     good
 }
 
+// Has the system keep what leg k heard: an error that comes late, as of a disk across a network, is seen here. False, with a message, where it can't be kept.
+fn keep(rt: &HostRuntime, names: &[u8], k: usize, file: &File) -> bool
+    requires { k < 8 }
+{
+    match file.sync_all() {
+        Ok(()) => true,
+        Err(e) => {
+            let mut name = [0u8; 4096];
+            let n = paths::heard(names, k, &mut name);
+            files::fail(rt, &name[0..n], e);
+            false
+        }
+    }
+}
+
+// The same of the first n legs.
+pub(crate) fn keep_all(
+    rt: &HostRuntime,
+    names: &[u8],
+    n: usize,
+    outs: &[Option<File>; LEGS],
+) -> bool
+    requires { n ≤ 8 }
+{
+    let mut good = true;
+    let mut k = 0;
+    while k < n {
+        if good {
+            good = match &outs[k] {
+                Some(file) => keep(rt, names, k, file),
+                None => false,
+            };
+        }
+        k += 1;
+    }
+    good
+}
+
 // Removes what leg k heard.
 fn remove(rt: &HostRuntime, names: &[u8], k: usize)
     requires { k < 8 }

@@ -227,8 +227,9 @@ fn make(
     let mut outs = [None, None, None, None, None, None, None, None];
     let made = heard::make(rt, names, n, &mut outs);
     let p = written(rt, names, n, made, ins, &outs, start, input);
+    let kept = p.good && heard::keep_all(rt, names, made, &outs);
     drop(outs);
-    if p.good {
+    if kept {
         tell(rt, n, p.frames);
     } else {
         heard::remove_all(rt, names, made);

@@ -430,9 +430,20 @@ fn written(rt: &HostRuntime, f: &Files, wave: bool, name: &[u8], leg: &[u8], sam
     true
 }
 
+// Has the system keep the leg: an error that comes late, as of a disk across a network, is seen here. False, with a message, where it can't be kept.
+fn synced(rt: &HostRuntime, f: &Files, leg: &[u8]) -> bool {
+    if let Some(file) = &f.leg {
+        if let Err(e) = file.sync_all() {
+            files::fail(rt, leg, e);
+            return false;
+        }
+    }
+    true
+}
+
 // The leg that was made is written. Where it can't be written whole it is removed again.
 fn finish(rt: &HostRuntime, made: Files, wave: bool, name: &[u8], leg: &[u8], samples: u64) {
-    let good = written(rt, &made, wave, name, leg, samples);
+    let good = written(rt, &made, wave, name, leg, samples) && synced(rt, &made, leg);
     drop(made);
     if good {
         tell(rt, b"(written (samples ", samples);

@@ -1,6 +1,6 @@
 -- The conditions of Recovery.antt can be met together, by a far decoder that is heard and that no waiting makes equal to the own one. Three of them can't be left out. Five frames before the window: with four, the rest holding,
 -- the far signal is none of the eight. Samples inside their range, and the bound on the coefficients: shown for one sample and any coefficients, not for a decoder's window. And one signal in place of the eight is too few: with a
--- shrunk subframe. Witness.antt computes these. Parity isn't treated here; `ParityNeeded` of agreement shows that without it the delays of frame 1 may differ.
+-- shrunk subframe. proofs/Witness.antt computes these. Parity isn't treated here; `ParityNeeded` of agreement shows that without it the delays of frame 1 may differ.
 use Rattle.std.specs.Prelude.{ℕ, ◌^◌, ◌≤◌, ◌≡◌, Bool, true, false, List, [], ◌∷◌, ◌++◌, map, ◌≢◌, ℤ, pos, nat_abs, ◌-ℤ◌, length, replicate}
 use Rattle.std.proofs.Common.{arith}
 use Rattle.std.specs.Int.Signed.{shr_z}

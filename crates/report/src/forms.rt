@@ -108,7 +108,7 @@ pub fn fault(f: First, out: &mut [u8; ROOM]) -> usize
     )
 }
 
-// `(far-ends (frame N))` and `(call_ends (frame N))`, behind their openings.
+// `(far-ends (frame N))` and `(call-ends (frame N))`, behind their openings.
 pub fn ends(far: bool, n: u32, out: &mut [u8; ROOM]) -> usize
     ensures { (result ≤ 160) × ((result ≡ length (ends far n)) × (out.new ≡ over (ends far n) out.old)) }
 {

@@ -1,4 +1,4 @@
--- What Needed.antt states, from one table block, two states and two payloads. Five subframes of signal are computed, two of the frame that repeats and three of the window that is shrunk: the far decoder's
+-- What specs/Needed.antt states, from one table block, two states and two payloads. Five subframes of signal are computed, two of the frame that repeats and three of the window that is shrunk: the far decoder's
 -- state is one that the frame leaves as it was, and of the own decoder only the parameters are computed. Assumes nothing.
 use Rattle.std.specs.Prelude.{ℕ, zero, suc, ◌+◌, ◌/◌, ◌^◌, ◌≤◌, ◌<◌, ◌≡◌, refl, Bool, true, false, ◌&&◌, List, [], ◌∷◌, ◌++◌, map, ◌≢◌, T, ℤ, pos, negsuc, nat_abs, ◌-ℤ◌, length, drop, take, replicate}
 use Rattle.std.proofs.Common.{sym, subst, ◌∙◌, le_refl, zero-mul, arith, lit≤, pow_pos}

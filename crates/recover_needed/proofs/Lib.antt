@@ -1,0 +1,2 @@
+-- What specs/Needed.antt states, proved.
+pub mod Witness
