@@ -17,40 +17,27 @@ def norm(w):
     return w.replace("-", "_")
 
 
-def top_split(text):
-    """The arguments of a call: split at blanks outside brackets."""
+def parts(text, ends):
+    """The parts of a text between characters that `ends` takes, outside brackets."""
     out, depth, cur = [], 0, ""
     for ch in text:
-        if ch in OPEN:
-            depth += 1
-        if ch in CLOSE:
-            depth -= 1
-        if ch.isspace() and depth == 0:
-            if cur:
-                out.append(cur)
-            cur = ""
-        else:
-            cur += ch
-    if cur:
-        out.append(cur)
-    return out
-
-
-def commas(text):
-    out, depth, cur = [], 0, ""
-    for ch in text:
-        if ch in OPEN:
-            depth += 1
-        if ch in CLOSE:
-            depth -= 1
-        if ch == "," and depth == 0:
+        depth += (ch in OPEN) - (ch in CLOSE)
+        if depth == 0 and ends(ch):
             out.append(cur.strip())
             cur = ""
         else:
             cur += ch
-    if cur.strip():
-        out.append(cur.strip())
-    return out
+    return [p for p in [*out, cur.strip()] if p]
+
+
+def top_split(text):
+    """The arguments of a call."""
+    return parts(text, str.isspace)
+
+
+def commas(text):
+    """The parts of a tuple."""
+    return parts(text, ",".__eq__)
 
 
 def inner(text):
