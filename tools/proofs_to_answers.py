@@ -491,8 +491,8 @@ def turn(path, entry, clauses, crate, modpath, out):
     given, answers = args[:ninv], args[ninv:]
     if len(answers) != len(needs):
         answers = aligned(answers, needs, byname)
-    uses = [re.sub(r"\bcame\b", "came, via", u) if "Back.{" in u and "via" not in u else u for u in uses]
-    uses = [re.sub(r"\bfits_came\b", "fits_came, fits_by", u) if "Back.{" in u else u for u in uses]
+    uses = [re.sub(r"\bcame\b", "via", u) if "Back.{" in u and "via" not in u else u for u in uses]
+    uses = [re.sub(r"\bfits_came\b", "fits_by", u) if "Back.{" in u else u for u in uses]
     base = [u for u in uses if not re.search(r"\.(Statement|Tie)\b", u) and "borrow.Author.Rules" not in u]
     rules = "use Rattle.std.proofs.Common.{rules}"
     dotted = ".".join(modpath)

@@ -20,7 +20,8 @@ use Rattle.state.specs.Laws.{Sized}
 use Rattle.parameters.specs.declared.Subframe.{Subframe}
 use Rattle.parameters.specs.Parameters.{parameters}
 use Rattle.parameters.specs.Parts.{Parts}
-use Rattle.decoder.specs.Frame.{Buffers, frame_buffers, subframe_signal, frame_signal, decode}
+use Rattle.decoder.specs.declared.Buffers.{Buffers}
+use Rattle.decoder.specs.Frame.{frame_buffers, subframe_signal, frame_signal, decode}
 
 length_spread : (spacing : ℤ) (k : ℕ) (l : List ℤ) → length (spread_pair spacing k l) ≡ length l
 unfolding spread_pair

@@ -34,19 +34,17 @@ pub(crate) fn taps(b30: &[i16; 31], phase: usize, offset: usize) -> [i16; 32]
     ensures { result ≡ taps b30.now phase offset }
 {
     let mut c = [0i16; 32];
-    let mut j = 0;
-    while j < 20 {
+    for j in 0..20 {
         c[offset + j] = b30[tap(phase, j)];
-        j += 1;
     }
     c
 }
 
-// x, or its complement -1 - x where it is negative.
+// x, or its complement -1 - x where it is negative. In 16 bits, not by the one of `basic_op`, so that the compiler takes eight words at once.
 fn magnitude(x: i16) -> u16
     ensures { result ≡ mag x }
 {
-    if x < 0 { (-1 - x) as u16 } else { x as u16 }
+    (if x < 0 { !x } else { x }).cast_unsigned()
 }
 
 // At least the sum of the taps without their signs.
@@ -54,10 +52,8 @@ fn size_sum(c: &[i16; 32]) -> u32
     ensures { result ≡ size_sum c.now 32 }
 {
     let mut s = 0u32;
-    let mut j = 0;
-    while j < 32 {
-        s += magnitude(c[j]) as u32 + 1;
-        j += 1;
+    for x in c {
+        s += u32::from(magnitude(*x)) + 1;
     }
     s
 }
@@ -68,11 +64,8 @@ fn greatest(exc: &[i16; EXC_LENGTH], from: usize) -> u16
     ensures { Small exc.now from 59 (result + 1) }
 {
     let mut m = 0u16;
-    let mut j = 0;
-    while j < 59 {
-        let x = magnitude(exc[from + j]);
-        m = if m < x { x } else { m };
-        j += 1;
+    for j in 0..59 {
+        m = m.max(magnitude(exc[from + j]));
     }
     m
 }
@@ -89,10 +82,8 @@ fn dot(c: &[i16; 32], exc: &[i16; EXC_LENGTH], from: usize) -> i32
     ensures { result ≡ dot c.now exc.now from 32 }
 {
     let mut s = 0i32;
-    let mut j = 0;
-    while j < 32 {
+    for j in 0..32 {
         s += times(exc[from + j], c[j]);
-        j += 1;
     }
     s
 }
@@ -118,19 +109,14 @@ fn words(
     requires { NoSaturation c.now offset from k × ((start ≤ end) × ((end ≤ 40) × Small exc.old (from - k - 9) 59 16384)) }
     ensures { (result ≤ end) × (Small exc.new (from - k - 9) 59 16384 × Continues (λ n e. filtered c.now offset (from + n - k) e) from start result exc.old exc.new) }
 {
-    let mut n = start;
-    while n < end {
+    for n in start..end {
         let w = word(c, exc, from + n - k - 9, offset);
-        if w > 16383 {
-            return n;
-        }
-        if w < -16384 {
+        if w > 16383 || w < -16384 {
             return n;
         }
         exc[from + n] = w as i16;
-        n += 1;
     }
-    n
+    end
 }
 
 // The first words of a subframe; none where a tap or a word is too large. There are two calls of `words` so that the compiler keeps it a

@@ -29,13 +29,7 @@ fn phase(frac: i16) -> usize
 fn limited(k: usize) -> usize
     ensures { result ≡ limited k }
 {
-    if k < 10 {
-        return 10;
-    }
-    if k > 144 {
-        return 144;
-    }
-    k
+    k.clamp(10, 144)
 }
 
 // k of T = t0 + frac / 3 = k - phase / 3, limited.
@@ -55,11 +49,9 @@ fn interpolate(b30: &[i16; 31], exc: &[i16; EXC_LENGTH], phase: usize, x: usize)
     ensures { result ≡ interpolate b30.now phase x exc.now }
 {
     let mut s = 0i32;
-    let mut i = 0;
-    while i < 10 {
+    for i in 0..10 {
         s = basic_op::l_mac(s, exc[x - i], b30[phase + 3 * i]);
         s = basic_op::l_mac(s, exc[x + 1 + i], b30[3 - phase + 3 * i]);
-        i += 1;
     }
     basic_op::round(s)
 }
@@ -76,10 +68,8 @@ fn rest(
     requires { (phase ≤ 2) × ((10 ≤ k) × ((k + 9 ≤ from) × ((from + 40 ≤ exc_length) × (done ≤ 40)))) }
     ensures { Continues (λ n e. interpolate b30.now phase (from + n - k) e) from done 40 exc.old exc.new }
 {
-    let mut n = done;
-    while n < 40 {
+    for n in done..40 {
         exc[from + n] = interpolate(b30, exc, phase, from + n - k);
-        n += 1;
     }
 }
 

@@ -1,14 +1,14 @@
 -- How far two decoders agree from here on, through every list of frames that both receive (change request 13), told by their state blocks: words 0 to 69 are the parameters, of which
 -- word 62 is the seed of an erased frame's pulses (G.729 clause 4.4.4), words 70 to 233 the signal (01, "The table block and the state block").
-use Rattle.std.specs.Prelude.{ℕ, ◌+◌, ◌%◌, ◌^◌, Bool, cond, ◌&&◌, ◌||◌, List, eqb, ℤ, length}
+use Rattle.std.specs.Prelude.{ℕ, ◌+◌, ◌%◌, ◌^◌, Bool, cond, ◌&&◌, ◌||◌, Result, Ok, Err, List, eqb, ℤ, length}
 use Rattle.std.specs.Int.Signed.{lt_z}
 use Rattle.laws.specs.Lists.{at}
 use Rattle.laws.specs.Loops.{nowhere}
 use Rattle.block.specs.Places.{past_length, tail_length, past_place, state_length}
 use Rattle.basic_op.specs.Ops.{low16}
 use Rattle.state.specs.State.{read_params, accepted}
-use Rattle.agree.specs.declared.Agreed.{Agreed}
-use Rattle.agree.specs.declared.Agreed.TheVariants.{Refused, Nothing, Parameters, Pulses, Samples}
+use Rattle.agree.specs.declared.Agreement.{Agreement}
+use Rattle.agree.specs.declared.Agreement.TheVariants.{Nothing, Parameters, Pulses, Samples}
 
 -- ---- what is compared
 
@@ -36,8 +36,8 @@ refusal a b = cond (eqb (length a) state_length && eqb (length b) state_length) 
 
 -- ---- the answer
 
-unfoldable pub agreement : List ℤ → List ℤ → Agreed
+unfoldable pub agreement : List ℤ → List ℤ → Agreement
 agreement a b = cond (same_parameters a b) (cond (same_seed_bits a b) (cond (same_signal a b) Samples Pulses) Parameters) Nothing
 
-unfoldable pub agree : List ℤ → List ℤ → Agreed
-agree a b = let n = refusal a b in cond (eqb n 0) (agreement a b) (Refused n)
+unfoldable pub agree : List ℤ → List ℤ → Result Agreement ℕ
+agree a b = let n = refusal a b in cond (eqb n 0) (Ok (agreement a b)) (Err n)

@@ -1,28 +1,21 @@
 -- Laws of the comparison of two state blocks: what is equal where it says so, and the refusals by those of each block. Assumes nothing.
-use Rattle.std.specs.Prelude.{◌≡◌, Bool, true, false, cond, ◌&&◌, ◌||◌, List, eqb, ltb, ℤ, pos, negsuc, length}
+use Rattle.std.specs.Prelude.{◌≡◌, Bool, true, false, cond, ◌&&◌, ◌||◌, List, eqb, ltb, ℤ, length}
 use Rattle.std.proofs.Math.Path.{refl}
-use Rattle.std.proofs.Common.{sym, ap, ◌∙◌, true≢false, arith, ltb-true, ltb-false, le-ltb, eqb-true}
+use Rattle.std.proofs.Common.{sym, ap, ◌∙◌, true≢false, arith, ltb-true, ltb-false, eqb-true}
 use Prim.Native.Nat.{ℕ, zero, suc, ◌+◌, ◌-◌, ◌%◌, ◌^◌, ◌≤◌, ◌<◌}
 use Rattle.std.specs.Int.Signed.{lt_z}
 use Rattle.laws.specs.Lists.{at, tab, at_tab}
 use Rattle.laws.specs.Loops.{both_hold, nowhere_each, nowhere_all}
-use Rattle.laws.specs.Ints.{most_both}
 use Rattle.block.specs.Block.{part}
 use Rattle.block.specs.Places.{past_length, tail_length, past_place, tail_place, state_length}
 use Rattle.basic_op.specs.Ops.{low16}
 use Rattle.state.specs.State.{read_params, read_signal, accepted, accepted_state, state_check}
+use Rattle.state.specs.Laws.{accepted_parts}
+use Rattle.state.specs.Same.{neither_less, never_less}
 use Rattle.state.specs.declared.Params.{Params}
 use Rattle.agree.specs.Agree.{equal_words, same_parameters, same_seed_bits, same_signal, refusal}
 
 -- ---- equal words
-
-neither_less : (x y : ℤ) → lt_z x y || lt_z y x ≡ false → x ≡ y
-neither_less x y = by (lt_z x y) (lt_z y x) refl refl
-  where
-    by : (p q : Bool) → lt_z x y ≡ p → lt_z y x ≡ q → p || q ≡ false → x ≡ y
-    by true q e f h = absurd (true≢false h)
-    by false true e f h = absurd (true≢false h)
-    by false false e f h = most_both x y e f
 
 -- words p to q - 1 are equal
 abbrev pub Equal : List ℤ → List ℤ → ℕ → ℕ → Type 0
@@ -43,10 +36,6 @@ module _ (a b : List ℤ) (p n : ℕ) (e : equal_words a b p n ≡ true) where
   equal_within q (suc m) g h = rw (equal_within q m g (omega arith), equal_word (q + m) (omega arith) (omega arith))
 
 -- and it says so wherever they are equal
-never_less : (x : ℤ) → lt_z x x ≡ false
-never_less (pos n) = le-ltb n n (omega arith)
-never_less (negsuc n) = le-ltb n n (omega arith)
-
 pub words_equal : (a b : List ℤ) (p n : ℕ) → Equal a b p (p + n) → equal_words a b p n ≡ true
 unfolding equal_words
 words_equal a b p n h =
@@ -150,6 +139,10 @@ agree_accepted a b e = go (eqb (length a) state_length) (eqb (length b) state_le
     go true true false q h = absurd (omega arith)
     go true false p q h = absurd (omega arith)
     go false l p q h = absurd (omega arith)
+
+-- and both are whole
+pub whole : (a b : List ℤ) → refusal a b ≡ 0 → (length a ≡ state_length) × (length b ≡ state_length)
+whole a b e = let h = agree_accepted a b e in ((accepted_parts a h.0).0, (accepted_parts b h.1).0)
 
 -- and the other way round
 pub accepted_agree : (a b : List ℤ) → accepted_state a ≡ true → accepted_state b ≡ true → refusal a b ≡ 0

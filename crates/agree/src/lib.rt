@@ -1,17 +1,19 @@
 // How far two decoders agree from here on, through every list of frames that both receive (change request 13), told by their state blocks.
 #![tactic(auto)]
 
-ghost use Rattle.std.specs.Prelude.{◌≡◌, ◌+◌, ◌≤◌};
+ghost use Rattle.std.specs.Prelude.{◌≡◌, ◌+◌, ◌≤◌, length};
+ghost use Rattle.refusal.specs.Refusal.{code, numbered};
 ghost use Rattle.block.specs.Places.{state_length};
-ghost use Rattle.agree.specs.Agree.{equal_words, same_parameters, same_seed_bits, same_signal, refusal, agree};
+ghost use Rattle.agree.specs.Agree.{equal_words, same_parameters, same_seed_bits, same_signal, refusal, agreement, agree};
 
 use basic_op::low16;
-use block::places::{PAST_LENGTH, PAST_PLACE, TAIL_LENGTH};
+use block::places::{PAST_LENGTH, PAST_PLACE, STATE_LENGTH, TAIL_LENGTH};
 use block::word;
+use refusal::Refusal;
 
-#[derive(Clone, Copy)]
-pub enum Agreed {
-    Refused(u32),
+// In this order, so that `as` gives the number that C is told.
+#[derive(Clone, Copy, PartialEq, Eq, Debug)]
+pub enum Agreement {
     // Nothing can be said.
     Nothing,
     // Delays, gains, line spectral frequencies and filter coefficients.
@@ -26,28 +28,26 @@ pub enum Agreed {
 
 // Whether n words from place p on are equal in both blocks.
 fn equal_words(a: &[i16], b: &[i16], p: usize, n: usize) -> bool
-    requires { p + n ≤ state_length }
+    requires a_length { length a.now ≡ state_length }
+    requires b_length { length b.now ≡ state_length }
+    requires inside { p + n ≤ state_length }
     ensures { result ≡ equal_words a.now b.now p n }
 {
-    let mut ok = true;
-    for k in 0..n {
-        let x = word(a, p + k);
-        let y = word(b, p + k);
-        if (x < y) | (y < x) {
-            ok = false;
-        }
-    }
-    ok
+    a[p..p + n] == b[p..p + n]
 }
 
 // Words 0 to 69, but for word 62, the seed, which no voice frame reads.
+#[tactic(auto, unfolding(crate::specs::Agree::same_parameters))]
 fn same_parameters(a: &[i16], b: &[i16]) -> bool
+    requires a_length { length a.now ≡ state_length }
+    requires b_length { length b.now ≡ state_length }
     ensures { result ≡ same_parameters a.now b.now }
 {
-    equal_words(a, b, 0, 62) & equal_words(a, b, 63, 7)
+    equal_words(a, b, 0, 62) && equal_words(a, b, 63, 7)
 }
 
 // The 13 low bits of the seeds, which the pulses of every concealed frame are made of.
+#[tactic(auto, unfolding(crate::specs::Agree::same_seed_bits))]
 fn same_seed_bits(a: &[i16], b: &[i16]) -> bool
     ensures { result ≡ same_seed_bits a.now b.now }
 {
@@ -55,7 +55,10 @@ fn same_seed_bits(a: &[i16], b: &[i16]) -> bool
 }
 
 // The past excitation and the last ten samples.
+#[tactic(auto, unfolding(crate::specs::Agree::same_signal))]
 fn same_signal(a: &[i16], b: &[i16]) -> bool
+    requires a_length { length a.now ≡ state_length }
+    requires b_length { length b.now ≡ state_length }
     ensures { result ≡ same_signal a.now b.now }
 {
     equal_words(a, b, PAST_PLACE, PAST_LENGTH + TAIL_LENGTH)
@@ -63,39 +66,44 @@ fn same_signal(a: &[i16], b: &[i16]) -> bool
 
 // ---- refusals
 
-// 3 where one of the blocks isn't 234 words, else 4 where in one of them predictor or delay is out of range, else 0.
-fn refusal(a: &[i16], b: &[i16]) -> u32
-    ensures { result ≡ refusal a.now b.now }
+// The length of either block is refused before what stands in one.
+#[tactic(auto, unfolding(crate::specs::Agree::refusal, state::specs::State::state_check))]
+fn check(a: &[i16], b: &[i16]) -> Result<(), Refusal>
+    ensures { code result ≡ refusal a.now b.now }
 {
-    let first = state::state_check(a);
-    let second = state::state_check(b);
-    if (first == 3) | (second == 3) {
-        return 3;
+    if a.len() != STATE_LENGTH || b.len() != STATE_LENGTH {
+        return Err(Refusal::StateLength);
     }
-    if (first == 4) | (second == 4) {
-        return 4;
-    }
-    0
+    state::state_check(a)?;
+    state::state_check(b)
 }
 
 // ---- the answer
 
-// How far two decoders with these state blocks agree from here on, or why a block is refused.
-pub fn agree(a: &[i16], b: &[i16]) -> Agreed
-    ensures { result ≡ agree a.now b.now }
+// Of two blocks that are not refused.
+#[tactic(auto, unfolding(crate::specs::Agree::agreement))]
+fn agreed(a: &[i16], b: &[i16]) -> Agreement
+    requires a_length { length a.now ≡ state_length }
+    requires b_length { length b.now ≡ state_length }
+    ensures { result ≡ agreement a.now b.now }
 {
-    let number = refusal(a, b);
-    if number != 0 {
-        return Agreed::Refused(number);
-    }
     if !same_parameters(a, b) {
-        return Agreed::Nothing;
+        return Agreement::Nothing;
     }
     if !same_seed_bits(a, b) {
-        return Agreed::Parameters;
+        return Agreement::Parameters;
     }
     if !same_signal(a, b) {
-        return Agreed::Pulses;
+        return Agreement::Pulses;
     }
-    Agreed::Samples
+    Agreement::Samples
+}
+
+// How far two decoders with these state blocks agree from here on, or why a block is refused.
+#[tactic(auto, unfolding(crate::specs::Agree::agree))]
+pub fn agree(a: &[i16], b: &[i16]) -> Result<Agreement, Refusal>
+    ensures { numbered result ≡ agree a.now b.now }
+{
+    check(a, b)?;
+    Ok(agreed(a, b))
 }

@@ -21,7 +21,8 @@ use Rattle.state.specs.State.{Signal, State, read, accepted}
 use Rattle.parameters.specs.declared.Decoded.{Decoded}
 use Rattle.parameters.specs.Parameters.{to_lsp, voice, parameters}
 use Rattle.parameters.specs.Parts.{Parts}
-use Rattle.decoder.specs.Frame.{Buffers, frame_signal, decode}
+use Rattle.decoder.specs.declared.Buffers.{Buffers}
+use Rattle.decoder.specs.Frame.{frame_signal, decode}
 use Rattle.agreement.specs.Demand.{Call, FrameValues, delays, pitch_gains, fixed_gains, frequencies, filters, signal_before, samples, All, VoiceWith, PassesParity, DelaysInRange, Alike, Agreement}
 use Rattle.accepted.specs.Accepted.{accepted_after_frame}
 use Rattle.agreement.proofs.Ranges.{delays_good}

@@ -23,7 +23,8 @@ use Rattle.agree.specs.Laws.{SameParams}
 use Rattle.parameters.specs.declared.Decoded.{Decoded}
 use Rattle.parameters.specs.Parameters.{sharpened, parameters}
 use Rattle.parameters.specs.Parts.{Parts}
-use Rattle.decoder.specs.Frame.{Buffers, frame_signal, decode}
+use Rattle.decoder.specs.declared.Buffers.{Buffers}
+use Rattle.decoder.specs.Frame.{frame_signal, decode}
 use Rattle.agreement.specs.Demand.{Call, FrameValues, frames, delays, pitch_gains, fixed_gains, frequencies, filters, samples, All, PassesParity}
 use Rattle.agreement.specs.Run.{taken, frame_of, values_of, run, state_after}
 use Rattle.agreement.specs.Gap.{pulses, received, Common, Through, SamePulses}

@@ -7,10 +7,11 @@ use lib.Dec.{T, lit≤, eqb-suc-zero}
 use lib.IntN.{ℤ}
 use lib.ListN.{length}
 use lib.Ieee.Bits.{is_true}
+use Rattle.std.specs.Prelude.{Result, Ok, Err}
 use Rattle.state.specs.State.{read, accepted_state}
 use Rattle.state.specs.Laws.{read_sized, read_write}
-use Rattle.agree.specs.declared.Agreed.{Agreed}
-use Rattle.agree.specs.declared.Agreed.TheVariants as agreed
+use Rattle.agree.specs.declared.Agreement.{Agreement}
+use Rattle.agree.specs.declared.Agreement.TheVariants as agreed
 use Rattle.agree.specs.Agree.{same_parameters, same_seed_bits, same_signal, refusal, agreement, agree}
 use Rattle.agree.specs.Laws.{parameters_equal, equal_parameters, seed_bits_equal, signal_equal, agree_accepted, accepted_agree}
 use Rattle.agreement.specs.Demand.{Call, frames}
@@ -22,7 +23,7 @@ use Rattle.agreement.proofs.Seeds.{sized_run, accepted_left}
 use Rattle.agreement.proofs.Gap.{Same, same_params, params_same, Near, Rest, gap, same_taken, run_a, run_b, left_same}
 
 module _ (a b : List ℤ) (ca cb : List Call) (same : received (frames ca a) ≡ received (frames cb b)) where
-  holds : Agreed → Type 0
+  holds : Result Agreement ℕ → Type 0
   holds r = Foretold r (frames ca a) (frames cb b)
 
   module _ (ok : refusal a b ≡ 0) (e : same_parameters a b ≡ true) where
@@ -57,15 +58,15 @@ module _ (a b : List ℤ) (ca cb : List Call) (same : received (frames ca a) ≡
     unfolding read
     near d = seed_bits_equal a b d
 
-    pulses_hold : same_seed_bits a b ≡ true → holds agreed.Pulses
+    pulses_hold : same_seed_bits a b ≡ true → holds (Ok agreed.Pulses)
     unfolding holds
     pulses_hold d = (parameters_hold, rw (x, y) (all.pulses (near d)))
 
-    samples_hold : same_seed_bits a b ≡ true → same_signal a b ≡ true → holds agreed.Samples
+    samples_hold : same_seed_bits a b ≡ true → same_signal a b ≡ true → holds (Ok agreed.Samples)
     unfolding holds read
     samples_hold d s = (parameters_hold, (pulses_hold d).1, rw (x, y) (all.samples (near d) 0 (lit≤ tt) (begins (taken ca) (read a) (read b) (signal_equal a b s))))
 
-    by : (p q : Bool) → same_seed_bits a b ≡ p → same_signal a b ≡ q → holds (cond p (cond q agreed.Samples agreed.Pulses) agreed.Parameters)
+    by : (p q : Bool) → same_seed_bits a b ≡ p → same_signal a b ≡ q → holds (Ok (cond p (cond q agreed.Samples agreed.Pulses) agreed.Parameters))
     unfolding holds
     by true true d s = samples_hold d s
     by true false d s = pulses_hold d
@@ -75,7 +76,7 @@ module _ (a b : List ℤ) (ca cb : List Call) (same : received (frames ca a) ≡
   unfolding holds agree agreement
   states_agree = go (refusal a b) refl
     where
-      not_refused : refusal a b ≡ 0 → (p : Bool) → same_parameters a b ≡ p → holds (cond p (cond (same_seed_bits a b) (cond (same_signal a b) agreed.Samples agreed.Pulses) agreed.Parameters) agreed.Nothing)
+      not_refused : refusal a b ≡ 0 → (p : Bool) → same_parameters a b ≡ p → holds (Ok (cond p (cond (same_seed_bits a b) (cond (same_signal a b) agreed.Samples agreed.Pulses) agreed.Parameters) agreed.Nothing))
       not_refused ok true e = by ok e (same_seed_bits a b) (same_signal a b) refl refl
       not_refused ok false e = tt
 
@@ -94,7 +95,7 @@ unfolding agree agreement read
 told a b ok_a ok_b e =
     rw (accepted_agree a b (is_true (accepted_state a) ok_a) (is_true (accepted_state b) ok_b), equal_parameters a b (params_same _ _ e)) (by (same_seed_bits a b) (same_signal a b))
   where
-    by : (p q : Bool) → Told (cond p (cond q agreed.Samples agreed.Pulses) agreed.Parameters)
+    by : (p q : Bool) → Told (Ok (cond p (cond q agreed.Samples agreed.Pulses) agreed.Parameters))
     by true true = tt
     by true false = tt
     by false q = tt

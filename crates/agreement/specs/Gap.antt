@@ -1,13 +1,13 @@
 -- Two decoders through a gap that both meet (change request 13): they began fresh with the same tables, have unlike pasts, and then receive the same frames, six voice
 -- frames first. In the terms of specs/Demand.antt: a decoder is a state block and the calls made on it. docs/AGREEMENT.md lays this file beside the request.
-use Rattle.std.specs.Prelude.{ℕ, ◌+◌, ◌*◌, ◌%◌, ◌^◌, ◌≤◌, ◌≡◌, cond, List, [], ◌∷◌, ◌++◌, map, ◌↔◌, ◌≢◌, T, ltb, ℤ, pos, length, take}
+use Rattle.std.specs.Prelude.{ℕ, ◌+◌, ◌*◌, ◌%◌, ◌^◌, ◌≤◌, ◌≡◌, cond, Result, Ok, Err, List, [], ◌∷◌, ◌++◌, map, ◌↔◌, ◌≢◌, T, ltb, ℤ, pos, length, take}
 use Rattle.laws.specs.Lists.{at}
 use Rattle.basic_op.specs.Ops.{low16}
 use Rattle.tables.specs.Layout.{AcceptedTables}
 use Rattle.fixed.specs.Draws.{draws, Period}
 use Rattle.state.specs.State.{write, fresh, accepted_state}
-use Rattle.agree.specs.declared.Agreed.{Agreed}
-use Rattle.agree.specs.declared.Agreed.TheVariants.{Refused, Nothing, Parameters, Pulses, Samples}
+use Rattle.agree.specs.declared.Agreement.{Agreement}
+use Rattle.agree.specs.declared.Agreement.TheVariants.{Nothing, Parameters, Pulses, Samples}
 use Rattle.agree.specs.Agree.{agree}
 use Rattle.agreement.specs.Demand.{Call, FrameValues, frames, delays, pitch_gains, fixed_gains, frequencies, filters, signal_before, samples, from, only, All, PassesParity, Real}
 use Rattle.agreement.specs.Run.{block_after}
@@ -136,20 +136,20 @@ pub record ParametersAgree (vs ws : List FrameValues) : Type 0 where
   pub filters_all : from 1 filters vs ≡ from 1 filters ws
 
 -- what each answer of `agree` on two state blocks says of the frames that both then receive
-abbrev pub Foretold : Agreed → List FrameValues → List FrameValues → Type 0
-Foretold (Refused n) vs ws = Unit {0}
-Foretold Nothing vs ws = Unit {0}
-Foretold Parameters vs ws = ParametersAgree vs ws
-Foretold Pulses vs ws = ParametersAgree vs ws × (from 1 pulses vs ≡ from 1 pulses ws)
-Foretold Samples vs ws = ParametersAgree vs ws × (from 1 pulses vs ≡ from 1 pulses ws) × (from 1 samples vs ≡ from 1 samples ws)
+abbrev pub Foretold : Result Agreement ℕ → List FrameValues → List FrameValues → Type 0
+Foretold (Err n) vs ws = Unit {0}
+Foretold (Ok Nothing) vs ws = Unit {0}
+Foretold (Ok Parameters) vs ws = ParametersAgree vs ws
+Foretold (Ok Pulses) vs ws = ParametersAgree vs ws × (from 1 pulses vs ≡ from 1 pulses ws)
+Foretold (Ok Samples) vs ws = ParametersAgree vs ws × (from 1 pulses vs ≡ from 1 pulses ws) × (from 1 samples vs ≡ from 1 samples ws)
 
 -- an answer that says something
-abbrev pub Told : Agreed → Type 0
-Told (Refused n) = ⊥
-Told Nothing = ⊥
-Told Parameters = Unit {0}
-Told Pulses = Unit {0}
-Told Samples = Unit {0}
+abbrev pub Told : Result Agreement ℕ → Type 0
+Told (Err n) = ⊥
+Told (Ok Nothing) = ⊥
+Told (Ok Parameters) = Unit {0}
+Told (Ok Pulses) = Unit {0}
+Told (Ok Samples) = Unit {0}
 
 pub record BesideGap : Type 0 where
   -- five common voice frames give all that six give, from every two accepted states, whatever they hold, and with any tables

@@ -1,12 +1,10 @@
 -- The decimal digits of two numbers of 32 bits, with a separator between them, are read as that arrival. Assumes nothing.
-use Rattle.std.specs.Prelude.{◌≡◌, refl, Bool, true, false, List, [], ◌∷◌, ◌++◌, ℕ, zero, suc, ◌+◌, ◌/◌, ◌%◌, ◌≤◌, ◌<◌, ltb, length}
+use Rattle.std.specs.Prelude.{◌≡◌, refl, Bool, true, false, List, [], ◌∷◌, ◌++◌, ℕ, zero, suc, ◌+◌, ◌/◌, ◌%◌, ◌≤◌, ◌<◌, ltb, length, Some}
 use Rattle.std.proofs.Common.{sym, arith, add-one, length-append, ltb-true, ltb-false, le-leb, ne_eqb}
 use Rattle.std.proofs.Math.Seq.{take-append_seam, drop-append-add}
 use Rattle.laws.specs.Loops.{both_hold}
 use Rattle.print.specs.Print.{decimal}
 use Rattle.print.specs.Laws.{decimal_one, decimal_more, number_decimal}
-use Rattle.arrival_line.specs.declared.Decimal.TheVariants.{Value}
-use Rattle.arrival_line.specs.declared.Line.TheVariants.{Arrival}
 use Rattle.arrival_line.specs.ArrivalLine.{is_digit, all_digits, number, separates, front, both, read}
 use Rattle.arrival_line.specs.Laws.{digit_range, number_is}
 
@@ -36,7 +34,7 @@ all_decimal (suc j) n h = by (ltb n 10) refl (all_decimal j (n / 10))
         rw (decimal_more n l) (all_last (decimal (n / 10)) (48 + n % 10) g.0 (digit (n % 10) (omega arith)), simp length-append (omega arith))
 
 -- so they are read as the number
-pub number_of : (n : ℕ) → n ≤ 4294967295 → number (decimal n) ≡ Value n
+pub number_of : (n : ℕ) → n ≤ 4294967295 → number (decimal n) ≡ Some n
 number_of n h =
     let d = all_decimal (suc n) n (omega arith) in
     sym (rw (number_decimal n) at (number_is (decimal n) d.1 d.0 (rw (number_decimal n) h)))
@@ -55,7 +53,7 @@ unfolding all_digits front
 front_of [] r b e f = rw f
 front_of (x ∷ l) r b e f = let p = both_hold (is_digit x) (all_digits l) e in rw (stays x p.0, front_of l r b p.1 f)
 
-pub read_of : (n t b : ℕ) → n ≤ 4294967295 → t ≤ 4294967295 → separates b ≡ true → read (decimal n ++ (b ∷ decimal t)) ≡ Arrival (record { number = n; time = t })
+pub read_of : (n t b : ℕ) → n ≤ 4294967295 → t ≤ 4294967295 → separates b ≡ true → read (decimal n ++ (b ∷ decimal t)) ≡ Some (record { number = n; time = t })
 unfolding read both
 read_of n t b h k s =
     let d = all_decimal (suc n) n (omega arith) in

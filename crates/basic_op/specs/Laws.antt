@@ -1,18 +1,18 @@
 -- Laws of `sat`, `by_sign` and `rounded`, by the tests that the code makes. Assumes nothing.
-use Rattle.std.specs.Prelude.{ℕ, zero, suc, ◌+◌, ◌-◌, ◌*◌, ◌^◌, ◌≤◌, ◌<◌, Bool, cond, ltb, ℤ, pos, negsuc, neg_ℤ, nat_abs, ◌+ℤ◌, ◌*ℤ◌}
-use Rattle.std.proofs.Common.{zero-le, sym, ap, ◌∙◌, subst, arith, suc-mul, zero-mul, pow-suc, le_refl, lt_of_lt_of_le, lt_of_le_of_lt, pow_pos, ltb→lt}
+use Rattle.std.specs.Prelude.{ℕ, zero, suc, ◌+◌, ◌-◌, ◌*◌, ◌^◌, ◌≤◌, ◌<◌, min, Bool, cond, leb, ltb, ℤ, pos, negsuc, neg_ℤ, nat_abs, ◌+ℤ◌, ◌*ℤ◌}
+use Rattle.std.proofs.Common.{zero-le, sym, ap, ◌∙◌, subst, arith, suc-mul, zero-mul, pow-suc, le_refl, lt_of_lt_of_le, lt_of_le_of_lt, pow_pos, pow_mono, leb-true, leb-false, ltb→lt}
 use Rattle.std.proofs.Math.Path.{◌≡◌, refl}
 use Rattle.std.proofs.Math.Bool.{true, false}
 use Rattle.std.proofs.Math.Dec.{T}
 use Rattle.std.proofs.Math.IntN.{+ℤ_assoc, +ℤ_comm}
 use Rattle.std.specs.Int.Signed.{mag, lt_z, shr_z}
 use borrow.Author.Tests.{lt-ltb, le-ltb, ltb-true, ltb-false, ne_eqb}
-use Rattle.std.specs.Int.{Width}
+use Rattle.std.specs.Int.{Width, int_min, int_max}
 use mir.Val.{SFits, hbits}
-use Rattle.basic_op.specs.Ops.{sat, sat32, l_mult, l_add, l_mac, extract_h, round, by_sign, rounded}
+use Rattle.basic_op.specs.Ops.{sat, sat32, l_mult, l_add, l_mac, extract_h, round, by_sign, rounded, lesser, greater}
 use Rattle.laws.specs.Ints.{shr_half}
 use Rattle.laws.specs.Sums.{abs_add}
-use Rattle.laws.specs.Range.{mag_abs, within}
+use Rattle.laws.specs.Range.{mag_abs, within, shr_far}
 
 -- ---- `sat`, by the code's tests on y, which is z read back from its bits
 
@@ -28,6 +28,15 @@ module _ (n : ℕ) {y z : ℤ} (e : y ≡ z) where
   pub sat_same : lt_z (pos n) y ≡ false → lt_z y (negsuc n) ≡ false → z ≡ sat n z
   unfolding sat
   sat_same p q = rw (← e, p, q)
+
+-- the same as the library's `clamp` says it
+pub clamp_is : (n : ℕ) (z : ℤ) → int_max (negsuc n) (int_min z (pos n)) ≡ sat n z
+unfolding sat
+clamp_is n z = go (lt_z (pos n) z)
+  where
+    go : (t : Bool) → int_max (negsuc n) (cond t (pos n) z) ≡ cond t (pos n) (cond (lt_z z (negsuc n)) (negsuc n) z)
+    go true = refl
+    go false = refl
 
 pub fits_within : {w : Width} (n : ℕ) {y : ℤ} → T (ltb n (2 ^ hbits w)) → lt_z (pos n) y ≡ false → lt_z y (negsuc n) ≡ false → SFits w y
 fits_within n {y} t p q = record { sfits = lt_of_le_of_lt (within n y p q) (ltb→lt _ _ t) }
@@ -102,6 +111,44 @@ far_is n (negsuc a) x h = neg_bottom n (suc a * x) (omega (arith, more a x))
 
 pub sat_far : (n : ℕ) (z : ℤ) (x y : ℕ) → suc n < x → x ≤ y → sat n (z *ℤ pos x) ≡ sat n (z *ℤ pos y)
 sat_far n z x y h l = far_is n z x h ∙ sym (far_is n z y (lt_of_lt_of_le h l))
+
+-- ---- shifts by the count or the width, the lesser
+
+pub sat_min : (b : ℕ) (z : ℤ) (n m : ℕ) → suc b < 2 ^ m → sat b (z *ℤ pos (2 ^ min n m)) ≡ sat b (z *ℤ pos (2 ^ n))
+sat_min b z n m h = go (leb m n) refl
+  where
+    go : (t : Bool) → leb m n ≡ t → sat b (z *ℤ pos (2 ^ min n m)) ≡ sat b (z *ℤ pos (2 ^ n))
+    go true e =
+        let l : m ≤ n = leb-true m n e in
+        let k : min n m ≡ m = omega arith in
+        rw k (sat_far b z (2 ^ m) (2 ^ n) h (pow_mono {i = m} {j = n} l))
+    go false e =
+        let l : n < m = leb-false m n e in
+        let k : min n m ≡ n = omega arith in
+        rw k
+
+pub shr_min : (z : ℤ) (n m : ℕ) → mag z < 2 ^ m → shr_z z (2 ^ min n m) ≡ shr_z z (2 ^ n)
+shr_min z n m h = go (leb m n) refl
+  where
+    go : (t : Bool) → leb m n ≡ t → shr_z z (2 ^ min n m) ≡ shr_z z (2 ^ n)
+    go true e =
+        let l : m ≤ n = leb-true m n e in
+        let k : min n m ≡ m = omega arith in
+        rw k (shr_far z m n h l)
+    go false e =
+        let l : n < m = leb-false m n e in
+        let k : min n m ≡ n = omega arith in
+        rw k
+
+-- ---- the library's `min` and `max`
+
+pub lesser_is : (a b : ℤ) → int_min a b ≡ lesser a b
+unfolding lesser
+lesser_is a b = refl
+
+pub greater_is : (a b : ℤ) → int_max a b ≡ greater a b
+unfolding greater
+greater_is a b = refl
 
 -- ---- a count's sign, by the code's test on m, which is n read back
 

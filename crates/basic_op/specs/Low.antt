@@ -1,5 +1,5 @@
 -- The lower 16 bits of a number of 32, as `x & 65535` gives them. Assumes nothing.
-use Rattle.std.specs.Prelude.{suc, ◌+◌, ◌-◌, ◌%◌, ◌^◌, ◌≤◌, ◌<◌, refl, Bool, ℤ, negsuc, ◌+ℤ◌, ◌-ℤ◌}
+use Rattle.std.specs.Prelude.{suc, ◌%◌, ◌^◌, ◌≤◌, ◌<◌, refl, Bool, ℤ, negsuc, ◌+ℤ◌, ◌-ℤ◌}
 use Rattle.std.proofs.Math.Path.{◌≡◌, ap}
 use Rattle.std.proofs.Common.{◌∙◌, subst, SFits, to_z, of_z}
 use Rattle.std.proofs.Math.Bool.{true, false}

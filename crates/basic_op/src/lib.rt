@@ -3,10 +3,10 @@
 // whether one saturates is asked of a function of its own, which synthesis alone calls.
 #![tactic(auto)]
 
-ghost use Rattle.std.specs.Prelude.{◌≡◌, ◌^◌, ◌<◌, ◌≤◌, pos, negsuc, nat_abs, ◌+ℤ◌, ◌-ℤ◌, ◌*ℤ◌};
+ghost use Rattle.std.specs.Prelude.{◌≡◌, ◌^◌, ◌<◌, ◌≤◌, pos, ◌*ℤ◌};
 ghost use Rattle.std.specs.Int.Signed.{shr_z, mag};
 ghost use Rattle.tables.specs.Layout.{log2};
-ghost use Rattle.basic_op.specs.Ops.{sat16, sat32, add, sub, l_mult, l_add, l_sub, l_mac, l_msu, mult, extract_h, extract_l, round, l_deposit_h, shl, l_shl, l_shr, l_shr_r, norm_l, low16, lesser, greater, overflow32, l_mult_overflow, l_msu_overflow, round_overflow, l_shl3_overflow};
+ghost use Rattle.basic_op.specs.Ops.{sat16, sat32, add, sub, l_mult, l_add, l_sub, l_mac, l_msu, mult, extract_h, extract_l, round, l_deposit_h, shl, l_shl, l_shr, l_shr_r, norm_l, low16, overflow32, l_mult_overflow, l_msu_overflow, round_overflow, l_shl3_overflow};
 ghost use Rattle.basic_op.specs.Oper32b.{split_high_low, join_high_low, multiply_split_by_16, interpolate_q15, log_fraction, base2_log, base2_power};
 
 use tables::formula;
@@ -17,29 +17,18 @@ use tables::formula;
 pub fn sat16(x: i32) -> i16
     ensures { result ≡ sat16 x }
 {
-    if x > 32767 {
-        32767
-    } else if x < -32768 {
-        -32768
-    } else {
-        x as i16
-    }
+    x.clamp(-32768, 32767) as i16
 }
 
 // x, or the nearer end of 32 bits.
 pub fn sat32(x: i64) -> i32
     ensures { result ≡ sat32 x }
 {
-    if x > 2147483647 {
-        2147483647
-    } else if x < -2147483648 {
-        -2147483648
-    } else {
-        x as i32
-    }
+    x.clamp(-2147483648, 2147483647) as i32
 }
 
 // ---- sums and products
+// By a clamp of the wider sum, not std's `saturating_add` and `saturating_sub`: of those LLVM makes ten instructions, of this five.
 
 // 16-bit addition with saturation.
 pub fn add(a: i16, b: i16) -> i16
@@ -115,12 +104,7 @@ pub fn round(x: i32) -> i16
 pub fn extract_l(x: i32) -> i16
     ensures { result ≡ extract_l x }
 {
-    let low = x & 65535;
-    if low > 32767 {
-        (low - 65536) as i16
-    } else {
-        low as i16
-    }
+    ((x & 65535) as u16).cast_signed()
 }
 
 // a in the upper 16 bits.
@@ -132,113 +116,80 @@ pub fn l_deposit_h(a: i16) -> i32
 
 // ---- shifts
 
-// Arithmetic right shifts at three widths: the floor division by 2 ^ n, for every n.
+// Arithmetic right shifts at three widths: the floor division by 2 ^ n, for every n. std has the shift by type, and a trait over three types would
+// be longer than these.
 pub fn sar16(a: i16, n: u32) -> i16
     ensures { result ≡ shr_z a (2 ^ n) }
 {
-    if n > 15 {
-        return a >> 15;
-    }
-    a >> n
+    a.unbounded_shr(n)
 }
 
 pub fn sar32(x: i32, n: u32) -> i32
     ensures { result ≡ shr_z x (2 ^ n) }
 {
-    if n > 31 {
-        return x >> 31;
-    }
-    x >> n
+    x.unbounded_shr(n)
 }
 
 pub fn sar64(x: i64, n: u32) -> i64
     ensures { result ≡ shr_z x (2 ^ n) }
 {
-    if n > 63 {
-        return x >> 63;
-    }
-    x >> n
+    x.unbounded_shr(n)
 }
 
-// The count of a shift without its sign, also at the end of the range.
-fn count(n: i16) -> u32
-    ensures { result ≡ nat_abs n }
-{
-    if n < 0 {
-        (0 - n as i32) as u32
-    } else {
-        n as u32
-    }
-}
-
-fn pow32(n: u32) -> i32
-    requires { n < 31 }
-    ensures { result ≡ pos (2 ^ n) }
-{
-    1 << n
-}
-
-fn pow64(n: u32) -> i64
-    requires { n < 63 }
-    ensures { result ≡ pos (2 ^ n) }
-{
-    1 << n
-}
-
-// Left shifts with saturation, for every n.
+// Left shifts with saturation, for every n: past the width a number that is not 0 is beyond the range.
 fn shl_by(a: i16, n: u32) -> i16
     ensures { result ≡ sat16 (a *ℤ pos (2 ^ n)) }
 {
-    if n > 16 {
-        return sat16(a as i32 * 65536);
-    }
-    sat16(a as i32 * pow32(n))
+    sat16(a as i32 * (1 << n.min(16)))
 }
 
 fn l_shl_by(x: i32, n: u32) -> i32
     ensures { result ≡ sat32 (x *ℤ pos (2 ^ n)) }
 {
-    if n > 32 {
-        return sat32(x as i64 * 4294967296);
-    }
-    sat32(x as i64 * pow64(n))
+    sat32(x as i64 * (1 << n.min(32)))
 }
 
 // Left by n with saturation, or right where n is negative.
 pub fn shl(a: i16, n: i16) -> i16
     ensures { result ≡ shl a n }
 {
+    let count = u32::from(n.unsigned_abs());
     if n < 0 {
-        return sar16(a, count(n));
+        sar16(a, count)
+    } else {
+        shl_by(a, count)
     }
-    shl_by(a, count(n))
 }
 
 // L_shl: left by n with saturation, or right where n is negative.
 pub fn l_shl(x: i32, n: i16) -> i32
     ensures { result ≡ l_shl x n }
 {
+    let count = u32::from(n.unsigned_abs());
     if n < 0 {
-        return sar32(x, count(n));
+        sar32(x, count)
+    } else {
+        l_shl_by(x, count)
     }
-    l_shl_by(x, count(n))
 }
 
 // L_shr: right by n, or left with saturation where n is negative.
 pub fn l_shr(x: i32, n: i16) -> i32
     ensures { result ≡ l_shr x n }
 {
+    let count = u32::from(n.unsigned_abs());
     if n < 0 {
-        return l_shl_by(x, count(n));
+        l_shl_by(x, count)
+    } else {
+        sar32(x, count)
     }
-    sar32(x, count(n))
 }
 
 // L_shr_r: the same with rounding; 0 where n is above 31.
 pub fn l_shr_r(x: i32, n: i16) -> i32
     ensures { result ≡ l_shr_r x n }
 {
-    let k = count(n);
+    let k = u32::from(n.unsigned_abs());
     if n < 0 {
         return l_shl_by(x, k);
     }
@@ -252,29 +203,13 @@ pub fn l_shr_r(x: i32, n: i16) -> i32
     sar64(half as i64 + 1, 1) as i32
 }
 
-// ---- the lesser and the greater
-
-// The Rust's `min`.
-pub fn lesser(a: i16, b: i16) -> i16
-    ensures { result ≡ lesser a b }
-{
-    if b < a { b } else { a }
-}
-
-// The Rust's `max`.
-pub fn greater(a: i16, b: i16) -> i16
-    ensures { result ≡ greater a b }
-{
-    if b < a { a } else { b }
-}
-
 // ---- normalization
 
 // x, or its complement -1 - x where it is negative.
 fn magnitude(x: i32) -> u32
     ensures { result ≡ mag x }
 {
-    if x < 0 { (-1 - x) as u32 } else { x as u32 }
+    x.max(!x).cast_unsigned()
 }
 
 // How many doublings bring x into the upper half of the range: the leading zeros of its magnitude less 1; 0 stays 0.
@@ -284,7 +219,7 @@ pub fn norm_l(x: i32) -> i16
     if x == 0 {
         return 0;
     }
-    (u32::leading_zeros(magnitude(x)) - 1) as i16
+    (magnitude(x).leading_zeros() - 1) as i16
 }
 
 // ---- whether an operator saturates
@@ -327,17 +262,13 @@ pub fn l_shl3_overflow(x: i32) -> bool
 pub fn low16(x: i16) -> u16
     ensures { result ≡ low16 x }
 {
-    if x < 0 {
-        (x as i32 + 65536) as u16
-    } else {
-        x as u16
-    }
+    x.cast_unsigned()
 }
 
 // ---- the extended operators of oper_32b
 
 // A 32-bit value as its upper 16 bits and the 15 bits below them.
-#[derive(Drop)]
+#[derive(Clone, Copy)]
 pub struct Split {
     pub upper: i16,
     pub lower: i16,
@@ -378,7 +309,7 @@ pub fn interpolate_q15(entry: i16, next: i16, weight: i16) -> i32
 
 // ---- the base-2 logarithm and power of clause 3.9.1
 
-#[derive(Drop)]
+#[derive(Clone, Copy)]
 pub struct Log2 {
     pub integer: i16,
     pub fraction: i16,

@@ -1,6 +1,6 @@
--- Laws of the fields: their bounds, a frame read by its halves, and a receiver written in order. Assumes nothing.
-use Rattle.std.specs.Prelude.{◌≡◌, refl, List, [], ◌∷◌, ℕ, ◌+◌, ◌*◌, ◌/◌, ◌%◌, ◌^◌, ◌<◌, length, get_or, take, drop, set}
-use Rattle.std.proofs.Common.{ap, sym, ◌∙◌, arith, add-zero, mod-lt, one-mul, add-one, lit<, pow_pos, shr-shr, shl_exact, get_or-drop, take-suc, take-suc-set, take_all}
+-- Laws of the fields: their bounds, and a frame read by its halves. Assumes nothing.
+use Rattle.std.specs.Prelude.{◌≡◌, refl, List, [], ◌∷◌, ℕ, ◌+◌, ◌*◌, ◌/◌, ◌%◌, ◌^◌, ◌<◌, get_or, drop}
+use Rattle.std.proofs.Common.{ap, sym, ◌∙◌, arith, add-zero, mod-lt, one-mul, lit<, pow_pos, shr-shr, shl_exact, get_or-drop}
 use Rattle.std.proofs.Math.Nat.{mul-add-mod_self_right}
 use Rattle.std.proofs.Math.Pow.{high, field, mod-mod-pow}
 use Rattle.bitstream.specs.Fields.{number, bits, widths, sum, cut, fields, unpack}
@@ -95,16 +95,6 @@ lower hi lo rest width low =
         sym (mod-mod-pow (hi * 2 ^ (rest + m) + lo) rest m)
         ∙ ap (λ (x : ℕ). x % 2 ^ m) (mul-add-mod_self_right hi (2 ^ (rest + m)) lo)
         ∙ mod-mod-pow lo rest m
-
--- ---- a receiver written in order
-
--- one turn: the first n words are those of v
-pub copy : (l v : List ℕ) (n : ℕ) → n < length l → n < length v → take n l ≡ take n v → take (n + 1) (set l n (get_or v n 0)) ≡ take (n + 1) v
-copy l v n h k e = rw (add-one, take-suc-set l n (get_or v n 0) h, take-suc v n 0 k, e)
-
--- after the last turn
-pub copied : (l v : List ℕ) (n m : ℕ) → take n l ≡ take n v → n ≡ m → length l ≡ m → length v ≡ m → l ≡ v
-copied l v n m e g h k = sym (take_all n l (omega arith)) ∙ e ∙ take_all n v (omega arith)
 
 -- ---- the operation Fields
 

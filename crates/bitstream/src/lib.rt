@@ -2,7 +2,10 @@
 #![tactic(auto)]
 
 ghost use Rattle.std.specs.Prelude.{◌≡◌, ◌^◌, ◌<◌, ◌≤◌, length, get_or, drop};
+ghost use Rattle.refusal.specs.Refusal.{code};
 ghost use Rattle.bitstream.specs.Fields.{number, bits, unpack, Answer, fields_call};
+
+use refusal::Refusal;
 
 // The fifteen numbers of Table 8, in the order of their bits.
 #[derive(Clone, Copy)]
@@ -31,7 +34,7 @@ pub struct SpeechParams {
 fn byte(frame: &[u8], k: usize) -> u64
     ensures { (result ≡ get_or frame.now k 0) × (result < 256) }
 {
-    if k < frame.len() { frame[k] as u64 } else { 0 }
+    frame.get(k).map_or(0, |b| *b as u64)
 }
 
 // The five bytes from byte `k` on as one number, the first byte highest.
@@ -80,34 +83,21 @@ pub fn unpack(frame: &[u8]) -> SpeechParams
     }
 }
 
-// Copies fifteen numbers to a receiver of as many.
-fn store(receiver: &mut [u16], v: [u16; 15])
-    requires { length receiver.old ≡ 15 }
-    ensures { receiver.new ≡ v }
-{
-    let mut i = 0;
-    while i < 15 {
-        receiver[i] = v[i];
-        i += 1;
-    }
-}
-
 // The operation Fields: 6 where there are not ten bytes, 8 where the receiver is not fifteen numbers, both of which leave the
-// receiver as it was; else 0, and the receiver has the fields.
-pub fn fields(bytes: &[u8], receiver: &mut [u16]) -> u32
-    ensures { Answer.answer result receiver.new ≡ fields_call bytes.now receiver.old }
+// receiver as it was; else the receiver has the fields.
+pub fn fields(bytes: &[u8], receiver: &mut [u16]) -> Result<(), Refusal>
+    ensures { Answer.answer (code result) receiver.new ≡ fields_call bytes.now receiver.old }
 {
     if bytes.len() != 10 {
-        return 6;
+        return Err(Refusal::PayloadLength);
     }
     if receiver.len() != 15 {
-        return 8;
+        return Err(Refusal::ReceiverLength);
     }
     let p = unpack(bytes);
-    let v = [
+    receiver.copy_from_slice(&[
         p.l0, p.l1, p.l2, p.l3, p.p1, p.p0, p.c1, p.s1, p.ga1, p.gb1, p.p2, p.c2, p.s2, p.ga2,
         p.gb2,
-    ];
-    store(receiver, v);
-    0
+    ]);
+    Ok(())
 }

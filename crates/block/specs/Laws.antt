@@ -1,15 +1,15 @@
 -- Laws of blocks: how many words a part and a written block have, what is read of a block by parts, and what is written. Assumes nothing.
-use Rattle.std.specs.Prelude.{◌≡◌, refl, Bool, true, false, List, [], ◌∷◌, ◌++◌, ℕ, suc, ◌+◌, ◌^◌, ◌≤◌, ◌<◌, leb, ℤ, pos, length, take, drop, set}
-use Rattle.std.proofs.Common.{ap, sym, ◌∙◌, append-nil, add-zero, add-one, arith, le-leb, leb-true, leb-false, eq-eqb, ne_eqb, length-drop, take-append-drop, drop_of_length-le, take_all, take_at, drop_at, drop-drop, drop-cons, get_or-drop}
+use Rattle.std.specs.Prelude.{◌≡◌, refl, Bool, true, false, List, [], ◌∷◌, ◌++◌, ℕ, suc, ◌+◌, ◌^◌, ◌-◌, ◌≤◌, ◌<◌, min, leb, ltb, ℤ, pos, length, take, drop, set, replicate}
+use Rattle.std.proofs.Common.{ap, sym, ◌∙◌, append-nil, add-zero, add-one, arith, le-leb, leb-true, leb-false, ltb-true, ltb-false, eq-eqb, length-append, ne_eqb, length-drop, take-append-drop, drop_of_length-le, take_all, take_at, drop_at, drop-drop, drop-cons, get_or-drop}
 use Rattle.std.proofs.lemmas.Bool.{lt-leb}
 use Rattle.std.proofs.Math.ListN.{get_or-eq_default}
 use Rattle.std.proofs.Math.Seq.{take-length, append_snoc, paste, paste-suc}
-use Rattle.std.proofs.lemmas.List.{set_split}
+use Rattle.std.proofs.lemmas.List.{set_split, ext_get_or, length-replicate, get_or_append_left, get_or-append_right}
 use Rattle.std.proofs.lemmas.List.Edits.{length-paste, take-paste}
 use Rattle.std.specs.Int.Signed.{mag}
 use Rattle.std.specs.Int.{Width}
 use mir.Val.{to_z, of_z, hbits}
-use Rattle.laws.specs.Lists.{at, tab_ext, length_tab, tab_part, whole}
+use Rattle.laws.specs.Lists.{at, at_tab, at_zeros, tab_ext, length_tab, tab_part, whole}
 use Rattle.laws.specs.Back.{via}
 use Rattle.block.specs.Block.{part, put, copy}
 
@@ -23,6 +23,34 @@ length_part b from n = length_tab n _
 pub part_past : (b : List ℤ) (from n : ℕ) → length b ≤ from → part b (length b) n ≡ part b from n
 unfolding part
 part_past b from n h = tab_ext n _ _ (λ k. get_or-eq_default b (pos 0) (omega arith) ∙ sym (get_or-eq_default b (pos 0) (omega arith)))
+
+-- from the block's end at the furthest
+pub part_from : (b : List ℤ) (from n : ℕ) → part b (min from (length b)) n ≡ part b from n
+part_from b from n = go (leb (length b) from) refl
+  where
+    go : (t : Bool) → leb (length b) from ≡ t → part b (min from (length b)) n ≡ part b from n
+    go true e =
+        let h : length b ≤ from = leb-true _ _ e in
+        let k : min from (length b) ≡ length b = omega arith in
+        rw k (part_past b from n h)
+    go false e =
+        let h : from < length b = leb-false _ _ e in
+        let k : min from (length b) ≡ from = omega arith in
+        rw k
+
+-- where the block ends before the part does, zeros follow
+pub part_short : (b : List ℤ) (from n : ℕ) → from ≤ length b → length b ≤ from + n → part b from n ≡ drop from b ++ replicate (from + n - length b) (pos 0)
+unfolding part
+part_short b from n h k =
+    ext_get_or (pos 0) _ _ (simp (length-append, length-drop, length-replicate) (omega (arith, length_tab n (λ i. at b (from + i))))) (λ i l. at_tab (λ i. at b (from + i)) n i (omega (arith, length_tab n (λ i. at b (from + i)))) ∙ go i (ltb (from + i) (length b)) refl)
+  where
+    go : (i : ℕ) (t : Bool) → ltb (from + i) (length b) ≡ t → at b (from + i) ≡ at (drop from b ++ replicate (from + n - length b) (pos 0)) i
+    go i true e =
+        let q : from + i < length b = ltb-true _ _ e in
+        sym (get_or_append_left (drop from b) (replicate (from + n - length b) (pos 0)) (pos 0) i (simp length-drop (omega arith)) ∙ get_or-drop from b i (pos 0))
+    go i false e =
+        let q : length b ≤ from + i = ltb-false _ _ e in
+        get_or-eq_default b (pos 0) q ∙ sym (get_or-append_right (drop from b) (replicate (from + n - length b) (pos 0)) (length b - from) i (pos 0) (simp length-drop (omega arith)) (omega arith) ∙ at_zeros (from + n - length b) (i - (length b - from)))
 
 -- ---- a block by its parts, from the front: what the next part is, and what is behind it
 
@@ -50,7 +78,7 @@ last_part m n b h = tab_part b m n (omega arith) ∙ take_all n (drop m b) (simp
 -- ---- a block that is written
 
 -- with room, and without
-put_room : (b v : List ℤ) (n : ℕ) → n + length v ≤ length b → put b n v ≡ paste b n v (length v)
+pub put_room : (b v : List ℤ) (n : ℕ) → n + length v ≤ length b → put b n v ≡ paste b n v (length v)
 unfolding put
 put_room b v n h = rw (le-leb (n + length v) (length b) h, take-length v)
 
@@ -71,6 +99,10 @@ unfolding put
 put_one b n z h = rw (le-leb (n + 1) (length b) (omega arith), add-one) (set_split b n z h ∙ sym (append_snoc (take n b) z (drop (suc n) b)))
 
 -- the whole of it
+pub copy_all : (b v : List ℤ) → length b ≡ length v → v ≡ copy b v
+unfolding copy
+copy_all b v h = rw (eq-eqb _ _ h)
+
 pub put_all : (b v : List ℤ) → length b ≡ length v → put b 0 v ≡ copy b v
 unfolding put copy
 put_all b v h =

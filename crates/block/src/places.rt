@@ -37,7 +37,7 @@ pub fn exc_start(second: bool) -> usize
     }
 }
 
-// The place of the subframe's first sample in the speech.
+// The place of the subframe's first sample in the speech. One function of both would take the constant that each has by its name.
 pub fn speech_start(second: bool) -> usize
     ensures value { result ≡ speech_start second }
     ensures upper_bound { result ≤ 50 }

@@ -4,11 +4,12 @@ use Rattle.std.proofs.Math.Path.{refl, ap, sym}
 use Rattle.std.proofs.Common.{◌∙◌, add_comm, drop_of_length-le, length-append, length-take, length-drop, take-append-drop, take_all, drop-drop, get_or-drop, get_or-take}
 use Rattle.std.proofs.Math.Bool.{true, false, cond}
 use mathlib.Core.List.{List, [], ◌∷◌, ◌++◌, append_assoc, append-nil}
-use Prim.Native.Nat.{ℕ, suc, ◌+◌, ◌-◌, ◌≤◌, ◌<◌, min}
+use Prim.Native.Nat.{ℕ, zero, suc, ◌+◌, ◌-◌, ◌≤◌, ◌<◌, min}
 use native.Mathlib.Omega.{arith}
 use Rattle.std.proofs.Math.Nat.{sub-zero, sub_self, zero-add}
 use Rattle.std.proofs.Math.ListN.{length, take, drop}
 use Rattle.std.proofs.Math.Seq.{take-length, append_snoc, take-append_seam, drop-append-add, take_at, drop_at, paste, slice}
+use Rattle.std.proofs.lemmas.List.{drop-take}
 use Rattle.std.proofs.lemmas.List.Edits.{drop-paste}
 use borrow.Author.Tests.{lt-ltb, le-ltb, eq-eqb, ne_eqb, eqb-true, leb-true, ltb-true}
 use Rattle.octets.specs.Octets as Octets
@@ -322,6 +323,11 @@ module _ (p : Progress) (held : List ℕ) {r : ℕ} {out : List ℕ} (out₀ : L
 
 -- ---- bytes moved to the front
 
+as_long : (n : ℕ) (l : List ℕ) → take (length (take n l)) l ≡ take n l
+as_long zero l = refl
+as_long (suc n) [] = refl
+as_long (suc n) (x ∷ l) = rw (as_long n l)
+
 module _ (l : List ℕ) (from to : ℕ) where
   pub slice_none : min to (length l) ≤ from → slice from to l ≡ []
   slice_none h = drop_of_length-le (take to l) {i = from} (rw length-take h)
@@ -329,22 +335,17 @@ module _ (l : List ℕ) (from to : ℕ) where
   pub slice_length : {end : ℕ} → end ≡ min to (length l) → end - from ≡ length (slice from to l)
   slice_length e = rw (length-drop from (take to l), length-take to l, e)
 
-  pub slice_move : (now : List ℕ) (i : ℕ) → length now ≡ length l → i < length (slice from to l) → now ≡ paste l 0 (slice from to l) i
-      → set now i (get_or now (from + i) 0) ≡ paste l 0 (slice from to l) (i + 1)
-  slice_move now i h k e =
-      let n : length (slice from to l) ≡ min to (length l) - from = rw (length-drop from (take to l), length-take to l) in
-      let d : drop (0 + i) now ≡ drop (0 + i) l = rw e (drop-paste l 0 (slice from to l) i (omega arith) (omega arith)) in
-      let g : get_or now (from + i) 0 ≡ get_or l (from + i) 0 = rw (add_comm from i, ← get_or-drop i now from 0, ← get_or-drop i l from 0, rw (zero-add i) at d) in
-      let v : get_or (slice from to l) i 0 ≡ get_or l (from + i) 0 = get_or-drop from (take to l) i 0 ∙ get_or-take to l (from + i) 0 (omega arith) in
-      rw (g, ← v) (rw (zero-add i) at (paste_more l (slice from to l) now 0 i (omega arith) k e))
-
   pub slice_none_over : min to (length l) ≤ from → (0 ≤ length l) × ((0 ≡ length (slice from to l)) × (l ≡ over (slice from to l) l))
   unfolding over
   slice_none_over h = rw (slice_none h) (omega arith, (refl, refl))
 
-  pub slice_over : (now : List ℕ) (i n : ℕ) → n ≡ length (slice from to l) → i ≡ n → now ≡ paste l 0 (slice from to l) i → now ≡ over (slice from to l) l
+  pub slice_moved : (now : List ℕ) {end : ℕ} → end ≡ min to (length l) → from ≤ end → now ≡ paste l 0 (drop from l) (end - from) → now ≡ over (slice from to l) l
   unfolding over
-  slice_over now i n h k e = e ∙ rw (k, h, take-length (slice from to l), zero-add (length (slice from to l)))
+  slice_moved now {end} e h g =
+      let k : from + (end - from) ≡ end = omega arith in
+      let t : take to l ≡ take end l = sym (as_long to l) ∙ ap (λ (n : ℕ). take n l) (length-take to l ∙ sym e) in
+      let d : drop from (take to l) ≡ take (end - from) (drop from l) = ap (λ (x : List ℕ). drop from x) t ∙ (rw k at (drop-take from (end - from) l)) in
+      g ∙ rw (zero-add (end - from), ← d, ← slice_length e)
 
 -- ---- the tables
 

@@ -3,14 +3,17 @@
 
 ghost use Rattle.std.specs.Prelude.{◌≡◌, ◌+◌, ◌≤◌, min, length};
 ghost use Rattle.std.proofs.Math.Seq.{slice};
+ghost use Rattle.refusal.specs.Refusal.{code};
 ghost use Rattle.line_step.specs.Step.{kept};
 ghost use Rattle.call.specs.Call.{start, last_form};
 ghost use Rattle.call.specs.Chunk.{Answer, goes_on, lines, overlong, turn, Begun, begin};
 ghost use Rattle.print.specs.Print.{over, form_room};
 
+use count::Counts;
 use line::LONGEST;
 use line_step::Progress;
 use print::{FORM_ROOM, FRAME_ROOM};
+use refusal::Refusal;
 
 // How far the call is after the lines taken; and how many bytes of input were used and of output written.
 #[derive(Clone, Copy)]
@@ -24,11 +27,10 @@ pub struct Taken {
 pub fn start() -> Progress
     ensures { result ≡ start }
 {
-    let counts = count::none();
     Progress {
         code: 0,
         lines: 0,
-        counts,
+        counts: Counts::none(),
     }
 }
 
@@ -36,13 +38,7 @@ pub fn start() -> Progress
 fn goes_on(job: Progress, most: u32, room: usize) -> bool
     ensures { result ≡ goes_on job most room }
 {
-    if job.code != 0 {
-        return false;
-    }
-    if most == 0 {
-        return false;
-    }
-    FRAME_ROOM <= room
+    (job.code == 0) & ((0 < most) & (FRAME_ROOM <= room))
 }
 
 // Takes whole lines out of `input` until `most` are taken, there is no further line feed, `out` has no room for what a line may print, or a line is refused.
@@ -64,6 +60,7 @@ pub fn lines(
     let mut text = [0u8; FRAME_ROOM];
     let mut used = 0;
     let mut written = 0;
+    // Counted by hand: that a line may still be taken is one of the tests by which the loop ends, and all stand in `goes_on`.
     while goes_on(job, left, out.len() - written) {
         let end = octets::find(input, used, input.len(), 10);
         if end == input.len() {
@@ -88,7 +85,7 @@ pub fn overlong(job: Progress, held: &[u8]) -> Progress
         return job;
     }
     if LONGEST < octets::find(held, 0, held.len(), 10) {
-        return line_step::with_code(job, 9);
+        return job.with_code(9);
     }
     job
 }
@@ -106,11 +103,10 @@ pub fn turn(
     ensures used_in_bounds { (result.used ≤ length held.now) × (result.written ≤ length out.old) }
 {
     let taken = lines(t, b, from, most, held, out);
-    let used = taken.used;
-    let written = taken.written;
-    let next = taken.job;
-    let job = overlong(next, &held[used..]);
-    Taken { job, used, written }
+    Taken {
+        job: overlong(taken.job, &held[taken.used..]),
+        ..taken
+    }
 }
 
 // The last form of a call, where `held` are the bytes behind its last line feed: its total, or its refusal. Answers its length; the bytes behind it are as they were.
@@ -123,43 +119,34 @@ pub fn finish(job: Progress, held: &[u8], out: &mut [u8; FORM_ROOM]) -> usize
     if held.len() != 0 {
         return print::refused(9, line_step::one_more(job.lines), out);
     }
-    let counts = job.counts;
-    print::total(counts, out)
+    print::total(job.counts, out)
 }
 
 // Moves the bytes from `from` up to `to` to the front of a buffer, and answers how many they are.
 pub fn keep(input: &mut [u8], from: usize, to: usize) -> usize
     ensures { (result ≤ length input.old) × ((result ≡ length (slice from to input.old)) × (input.new ≡ over (slice from to input.old) input.old)) }
 {
-    let end = words::lesser(to, input.len());
+    let end = to.min(input.len());
     if end <= from {
         return 0;
     }
-    let n = end - from;
-    let mut i = 0;
-    while i < n {
-        input[i] = input[from + i];
-        i += 1;
-    }
-    n
+    input.copy_within(from..end, 0);
+    end - from
 }
 
 // Begins a call from the bytes of the table file: the tables and the fresh state. A refusal leaves both blocks as they were.
-pub fn begin(file: &[u8], t: &mut [i16], b: &mut [i16]) -> u32
-    ensures { Begun.begun result t.new b.new ≡ begin file.now t.old b.old }
+pub fn begin(file: &[u8], t: &mut [i16], b: &mut [i16]) -> Result<(), Refusal>
+    ensures { Begun.begun (code result) t.new b.new ≡ begin file.now t.old b.old }
 {
     if file.len() != 3760 {
-        return 1;
+        return Err(Refusal::TableLength);
     }
     if t.len() != 1880 {
-        return 1;
+        return Err(Refusal::TableLength);
     }
     let mut tables = [0i16; 1880];
     words::from_bytes(file, &mut tables);
-    let fresh = state::fresh_state(&tables, b);
-    if fresh != 0 {
-        return fresh;
-    }
+    state::fresh_state(&tables, b)?;
     words::from_bytes(file, t);
-    fresh
+    Ok(())
 }

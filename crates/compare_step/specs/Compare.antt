@@ -1,7 +1,7 @@
 -- A comparison of a far decoder's samples with what a decoder makes of the same frames (docs/AGREEMENT.md, "The far decoder's state"). Of the far decoder only the samples are seen. From the sixth common voice
 -- frame on all parameters of two decoders but the seed are equal (Demand 3), so the samples of two frames tell its past excitation, but for which of three subframes were shrunk: it is one of eight candidates. From
 -- there on each candidate is decoded, and those stay whose samples have been the far ones.
-use Rattle.std.specs.Prelude.{ℕ, Bool, cond, not, ◌&&◌, ◌||◌, List, [], ◌∷◌, ◌++◌, map, eqb, ℤ, pos, negsuc, ◌+ℤ◌, ◌-ℤ◌, length, drop, replicate}
+use Rattle.std.specs.Prelude.{ℕ, Bool, cond, not, Result, Ok, Err, ◌&&◌, ◌||◌, List, [], ◌∷◌, ◌++◌, map, eqb, ℤ, pos, negsuc, ◌+ℤ◌, ◌-ℤ◌, length, drop, replicate}
 use Rattle.std.specs.Int.Signed.{lt_z}
 use Rattle.laws.specs.Lists.{at}
 use Rattle.block.specs.Block.{part}
@@ -21,8 +21,8 @@ use Rattle.compare_step.specs.declared.Difference.{Difference}
 use Rattle.compare_step.specs.declared.Far.{Far}
 use Rattle.compare_step.specs.declared.Seen.{Seen}
 use Rattle.compare_step.specs.declared.Left.{Left}
-use Rattle.compare_step.specs.declared.Compared.{Compared}
-use Rattle.compare_step.specs.declared.Compared.TheVariants.{Refused, Concealed, Settling, NotClean, Known, Differs}
+use Rattle.compare_step.specs.declared.Class.{Class}
+use Rattle.compare_step.specs.declared.Class.TheVariants.{Concealed, Settling, NotClean, Known, Differs}
 use Rattle.compare_step.specs.Slots.{all_tried, candidates, only_fitting, best, fit, fits, computed}
 
 -- ---- the memory, 2203 words: 70 words of parameters, as in a state block; what is kept of the far samples; the slots
@@ -110,7 +110,7 @@ voice_far n v y told h x =
       words = cond x.found h.words (drop frame_length h.words ++ map word (frame_words v.first.a v.second.a (h.tail ++ y)));
     }
 
-unfoldable pub class : ℤ → Bool → Seen → Compared
+unfoldable pub class : ℤ → Bool → Seen → Class
 class n told x = cond x.known (cond x.found Known (Differs x.difference)) (cond (lt_z (pos 5) n && not told) (NotClean (nat n)) (Settling (nat n)))
 
 -- ---- a concealed frame: the far decoder may have had anything, and all counts begin anew
@@ -123,7 +123,7 @@ concealed_far y h = record { count = pos 0; clean = pos 0; status = pos 0; tail 
 pub record Step : Type 0 where
   pub far : Far
   pub slots : List ℤ
-  pub class : Compared
+  pub class : Class
   -- the samples of a candidate where there is one, else as they were
   pub samples : List ℤ
 
@@ -159,6 +159,14 @@ unfoldable pub refusal : List ℤ → List ℤ → ℕ → List ℕ → ℕ → 
 refusal t m kind payload samples room =
     first_of (table_check t) (first_of (memory_check m) (first_of (input_check kind payload samples) (input_check kind payload room)))
 
+-- what a frame is, or the number that refuses it
+abbrev pub Compared : Type 0
+Compared = Result Class ℕ
+
+-- of a frame that is not refused
+abbrev pub ok : Class → Compared
+ok c = Ok c
+
 -- the answer, and the memory and the samples as the call leaves them
 pub data Answer : Type 0 where
   answer : Compared → List ℤ → List ℤ → Answer
@@ -168,12 +176,12 @@ unfoldable pub stepped : List ℤ → List ℤ → Decision → List ℤ → Lis
 stepped t m d y out =
     let v = parameters t d (read_params m) in
     let r = step t d v y out (read_far m) (drop front_length m) in
-    answer r.class (write_params v.params ++ (far_words r.far ++ r.slots)) r.samples
+    answer (Ok r.class) (write_params v.params ++ (far_words r.far ++ r.slots)) r.samples
 
 unfoldable pub compare : List ℤ → List ℤ → ℕ → List ℕ → List ℤ → List ℤ → Answer
 compare t m kind payload y out =
     let n = refusal t m kind payload (length y) (length out) in
-    cond (eqb n 0) (stepped t m (decide kind payload) y out) (answer (Refused n) m out)
+    cond (eqb n 0) (stepped t m (decide kind payload) y out) (answer (Err n) m out)
 
 -- the number returned, and the memory as the call leaves it
 pub data Begun : Type 0 where

@@ -1,5 +1,5 @@
 -- Laws of the comparison, from what the calls inside it give. Assumes nothing.
-use Rattle.std.specs.Prelude.{ℕ, ◌-◌, ◌≤◌, ◌≡◌, refl, Bool, true, false, cond, List, [], ◌++◌, eqb, ℤ, length, take, drop}
+use Rattle.std.specs.Prelude.{ℕ, ◌-◌, ◌≤◌, ◌≡◌, refl, Ok, Bool, true, false, cond, List, [], ◌++◌, eqb, ℤ, length, take, drop}
 use Rattle.std.proofs.Common.{ap, ◌∙◌, append_assoc, append-nil, zero-add, arith, eqb-true, le-leb, length-append, length-take, length-drop, drop_of_length-le, drop_at}
 use Rattle.block.specs.Block.{put}
 use Rattle.tables.specs.Layout.{table_check}
@@ -62,8 +62,8 @@ module _ (t m : List ℤ) (d : Decision) (y out : List ℤ) {v : Decoded} {h : F
       ∙ ap (λ (l : List ℤ). w ++ l) (drop_at (take front_length m) x front_length front)
       ∙ ap (λ (l : List ℤ). l ++ x) ew ∙ append_assoc (write_params v.params) (far_words r.far) x
 
-  pub done : answer r.class n o ≡ stepped t m d y out
+  pub done : answer (Ok r.class) n o ≡ stepped t m d y out
   unfolding stepped
   done =
       let a = memory ∙ (λ i. write_params (ev i).params ++ (far_words (stepped_is i).far ++ (stepped_is i).slots)) in
-      λ i. answer (stepped_is i).class (a i) (stepped_is i).samples
+      λ i. answer (Ok (stepped_is i).class) (a i) (stepped_is i).samples

@@ -2,7 +2,8 @@
 // Of the far decoder only the samples are seen; `slots` has the candidates for its signal.
 #![tactic(auto)]
 
-ghost use Rattle.std.specs.Prelude.{◌≡◌, cond, ◌++◌, map, pos, negsuc, length, drop, replicate};
+ghost use Rattle.std.specs.Prelude.{◌≡◌, cond, ◌++◌, map, pos, negsuc, length, drop};
+ghost use Rattle.refusal.specs.Refusal.{code, numbered};
 ghost use Rattle.block.specs.Places.{frame_length};
 ghost use Rattle.inverse.specs.Inverse.{frame_words, word};
 ghost use Rattle.state.specs.State.{write_params};
@@ -17,6 +18,7 @@ use block::word;
 use inverse::WINDOW_LENGTH;
 use parameters::Decoded;
 use plc::Decision;
+use refusal::Refusal;
 use state::Params;
 
 // The words of the memory in front of the slots, and all of them.
@@ -25,16 +27,15 @@ const FRONT_LENGTH: usize = 243;
 pub const COMPARE_LENGTH: usize = 2203;
 
 // Where no candidate gives the far samples: the first sample at which none is left, and how much the far one is more than the computed one.
-#[derive(Clone, Copy)]
+#[derive(Clone, Copy, PartialEq, Eq, Debug)]
 pub struct Difference {
     pub sample: u16,
     pub rest: i32,
 }
 
-// What a frame is. The number of Settling and NotClean is the frame's in the count of common voice frames (0: none has passed parity yet), that of Refused says why.
-#[derive(Clone, Copy)]
-pub enum Compared {
-    Refused(u32),
+// What a frame is. The number of Settling and NotClean is the frame's in the count of common voice frames (0: none has passed parity yet).
+#[derive(Clone, Copy, PartialEq, Eq, Debug)]
+pub enum Class {
     Concealed,
     // There are no candidates.
     Settling(u16),
@@ -54,7 +55,7 @@ pub struct Far {
     // How many of the last frames in a row can be part of a window, at most two. 0 behind a frame that is a candidate's; -1 behind the first frame that differs, so that the
     // next, whose ten samples before it can't be relied on, isn't counted.
     pub clean: i16,
-    // 0 there are no candidates; 1 the last frame is a candidate's; 2 it is none's, and the candidates stay.
+    // 0 there are no candidates; 1 the last frame is a candidate's; 2 it is none's, and the candidates stay. A number, since it is a word of the memory, which may hold any.
     pub status: i16,
     // The last ten samples.
     pub tail: [i16; TAIL_LENGTH],
@@ -62,7 +63,7 @@ pub struct Far {
     pub words: [i16; WINDOW_LENGTH],
 }
 
-// What the candidates say of a frame: whether there are any, whether the far samples are one's, and where they first are none's.
+// What the candidates say of a frame (flags with the difference beside them, as the definition `look` has them, whatever the flags are): whether there are any, whether the far samples are one's, and where they first are none's.
 #[derive(Clone, Copy)]
 pub struct Seen {
     pub known: bool,
@@ -75,7 +76,7 @@ pub struct Seen {
 fn read_far(m: &[i16]) -> Far
     ensures { result ≡ read_far m.now }
 {
-    let tail = block::words10(m, 73);
+    let tail = block::words_at::<10>(m, 73);
     let mut words = [0i16; WINDOW_LENGTH];
     block::words(m, 83, &mut words);
     Far {
@@ -240,7 +241,7 @@ fn next_words(v: Decoded, y: &[i16; FRAME_LENGTH], h: Far) -> [i16; WINDOW_LENGT
 fn plain_far(n: i16, status: i16, y: &[i16; FRAME_LENGTH], h: Far) -> Far
     ensures { result ≡ record { count = n; clean = pos 0; status = status; tail = drop 70 y.now; words = h.words } }
 {
-    let tail = block::words10(y, 70);
+    let tail = block::words_at::<10>(y, 70);
     let words = h.words;
     Far {
         count: n,
@@ -267,7 +268,7 @@ fn voice_far(n: i16, v: Decoded, y: &[i16; FRAME_LENGTH], told: bool, h: Far, x:
     if x.found {
         return plain_far(n, 1, y, h);
     }
-    let tail = block::words10(y, 70);
+    let tail = block::words_at::<10>(y, 70);
     let words = next_words(v, y, h);
     Far {
         count: n,
@@ -280,20 +281,20 @@ fn voice_far(n: i16, v: Decoded, y: &[i16; FRAME_LENGTH], told: bool, h: Far, x:
 
 // ---- a frame
 
-fn class(n: i16, told: bool, x: Seen) -> Compared
+#[tactic(auto, unfolding(crate::specs::Compare::class))]
+fn class_of(n: i16, told: bool, x: Seen) -> Class
     ensures { result ≡ class n told x }
 {
     if x.known {
         if x.found {
-            return Compared::Known;
+            return Class::Known;
         }
-        let d = x.difference;
-        return Compared::Differs(d);
+        return Class::Differs(x.difference);
     }
     if (5 < n) & !told {
-        return Compared::NotClean(pitch::nat(n));
+        return Class::NotClean(pitch::nat(n));
     }
-    Compared::Settling(pitch::nat(n))
+    Class::Settling(pitch::nat(n))
 }
 
 // The samples of the best candidate, where there is one.
@@ -339,7 +340,7 @@ fn slots_step(
 #[derive(Clone, Copy)]
 pub struct Left {
     pub far: Far,
-    pub class: Compared,
+    pub class: Class,
 }
 
 fn voice_step(
@@ -357,7 +358,7 @@ fn voice_step(
     let x = slots_step(t, v, y, h, s, out);
     let told = tells(n, v, y);
     let far = voice_far(n, v, y, told, h, x);
-    let class = class(n, told, x);
+    let class = class_of(n, told, x);
     Left { far, class }
 }
 
@@ -376,7 +377,7 @@ fn step(
         Decision::Voice(f) => voice_step(t, f, v, y, h, s, out),
         Decision::Concealment => {
             let far = plain_far(0, 0, y, h);
-            let class = Compared::Concealed;
+            let class = Class::Concealed;
             Left { far, class }
         }
     }
@@ -384,58 +385,56 @@ fn step(
 
 // ---- the operations
 
-// Whether the memory can be used: 0, or 3 for another length, or 4 for a predictor or a delay out of range.
-fn memory_check(m: &[i16]) -> u32
-    ensures { result ≡ memory_check m.now }
+// Whether the memory can be used: it has its length, and a predictor and a delay in range.
+#[tactic(auto, unfolding(crate::specs::Compare::memory_check))]
+fn memory_check(m: &[i16]) -> Result<(), Refusal>
+    ensures { code result ≡ memory_check m.now }
 {
     if m.len() != COMPARE_LENGTH {
-        return 3;
+        return Err(Refusal::StateLength);
     }
-    if state::accepted(m) {
-        return 0;
+    if !state::accepted(m) {
+        return Err(Refusal::StateValues);
     }
-    4
+    Ok(())
 }
 
-// The first refusal that applies, or 0.
-fn refusal(t: &[i16], m: &[i16], kind: u32, payload: &[u8], samples: usize, room: usize) -> u32
-    ensures { result ≡ refusal t.now m.now kind payload.now samples room }
+// The first refusal that applies.
+#[tactic(auto, unfolding(crate::specs::Compare::refusal, decoder::specs::Call::first_of))]
+fn check(
+    t: &[i16],
+    m: &[i16],
+    kind: u32,
+    payload: &[u8],
+    samples: usize,
+    room: usize,
+) -> Result<(), Refusal>
+    ensures { code result ≡ refusal t.now m.now kind payload.now samples room }
 {
-    let table_code = tables::table_check(t);
-    if table_code != 0 {
-        return table_code;
-    }
-    let memory_code = memory_check(m);
-    if memory_code != 0 {
-        return memory_code;
-    }
-    let code = decoder::input_check(kind, payload, samples);
-    if code != 0 {
-        return code;
-    }
+    tables::table_check(t)?;
+    memory_check(m)?;
+    decoder::input_check(kind, payload, samples)?;
     decoder::input_check(kind, payload, room)
 }
 
 // A frame on memory that is accepted.
-fn stepped(t: &[i16], m: &mut [i16], d: Decision, y: &[i16], out: &mut [i16]) -> Compared
+fn stepped(t: &[i16], m: &mut [i16], d: Decision, y: &[i16], out: &mut [i16]) -> Class
     requires m_len { length m.old ≡ compare_length }
     requires y_len { length y.now ≡ frame_length }
     requires out_len { length out.old ≡ frame_length }
-    ensures { Answer.answer result m.new out.new ≡ stepped t.now m.old d y.now out.old }
+    ensures { Answer.answer (Ok result) m.new out.new ≡ stepped t.now m.old d y.now out.old }
 {
     let v = parameters::parameters(t, d, state::read_params(m));
     let h = read_far(m);
     let mut far = [0i16; FRAME_LENGTH];
     block::words(y, 0, &mut far);
     let r = step(t, d, v, &far, h, &mut m[FRONT_LENGTH..], out);
-    let p = v.params;
-    let left = r.far;
-    let words = front(p, left);
-    block::put(m, 0, &words);
+    block::put(m, 0, &front(v.params, r.far));
     r.class
 }
 
 // One frame of the call with the far samples y that belong to it: what it is, with the memory moved on and, where there are candidates, the 80 samples of the best in `out`; or why it is refused, and both as they were.
+#[tactic(auto, unfolding(crate::specs::Compare::compare))]
 pub fn compare(
     t: &[i16],
     m: &mut [i16],
@@ -443,45 +442,31 @@ pub fn compare(
     payload: &[u8],
     y: &[i16],
     out: &mut [i16],
-) -> Compared
-    ensures { Answer.answer result m.new out.new ≡ compare t.now m.old kind payload.now y.now out.old }
+) -> Result<Class, Refusal>
+    ensures { Answer.answer (numbered result) m.new out.new ≡ compare t.now m.old kind payload.now y.now out.old }
 {
-    let number = refusal(t, m, kind, payload, y.len(), out.len());
-    if number != 0 {
-        return Compared::Refused(number);
-    }
-    stepped(t, m, plc::decide(kind, payload), y, out)
+    check(t, m, kind, payload, y.len(), out.len())?;
+    Ok(stepped(t, m, plc::decide(kind, payload), y, out))
 }
 
-// All words 0.
-fn clear(m: &mut [i16])
-    ensures { m.new ≡ replicate (length m.old) (pos 0) }
+// The memory before the first frame; or why it is refused, and the memory as it was.
+#[tactic(auto, unfolding(crate::specs::Compare::begin))]
+pub fn begin(t: &[i16], m: &mut [i16]) -> Result<(), Refusal>
+    ensures { Begun.begun (code result) m.new ≡ begin t.now m.old }
 {
-    for i in 0..m.len() {
-        m[i] = 0;
-    }
-}
-
-// The memory before the first frame: 0, or why it is refused, and the memory as it was.
-pub fn begin(t: &[i16], m: &mut [i16]) -> u32
-    ensures { Begun.begun result m.new ≡ begin t.now m.old }
-{
-    let code = tables::table_check(t);
-    if code != 0 {
-        return code;
-    }
+    tables::table_check(t)?;
     if m.len() != COMPARE_LENGTH {
-        return 3;
+        return Err(Refusal::StateLength);
     }
     let none = Far {
         count: 0,
         clean: 0,
         status: 0,
-        tail: [0i16; TAIL_LENGTH],
-        words: [0i16; WINDOW_LENGTH],
+        tail: [0; TAIL_LENGTH],
+        words: [0; WINDOW_LENGTH],
     };
     let words = front(state::fresh_params(t), none);
-    clear(m);
+    m.fill(0);
     block::put(m, 0, &words);
-    0
+    Ok(())
 }

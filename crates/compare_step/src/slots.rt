@@ -7,6 +7,7 @@ ghost use Rattle.compare_step.specs.Slots.{slot_length, same, same_samples, slot
 
 use block::places::{EXC_LENGTH, FRAME_LENGTH, PAST_LENGTH, SPEECH_LENGTH, TAIL_LENGTH};
 use block::word;
+use decoder::Buffers;
 use inverse::WINDOW_LENGTH;
 use parameters::Decoded;
 
@@ -47,24 +48,6 @@ fn slot_of(n: i16, past: &[i16; PAST_LENGTH], speech: &[i16; SPEECH_LENGTH]) -> 
     out
 }
 
-// The excitation that a candidate's next frame starts with: its past 154 words, and room for 80.
-fn slot_exc(x: &[i16; SLOT_LENGTH]) -> [i16; EXC_LENGTH]
-    ensures { result ≡ part x.now 1 past_length ++ replicate frame_length (pos 0) }
-{
-    let mut out = [0i16; EXC_LENGTH];
-    block::words(x, 1, &mut out[..PAST_LENGTH]);
-    out
-}
-
-// The samples that it starts with: the last ten, and room for 80.
-fn slot_speech(x: &[i16; SLOT_LENGTH]) -> [i16; SPEECH_LENGTH]
-    ensures { result ≡ part x.now 235 tail_length ++ replicate frame_length (pos 0) }
-{
-    let mut out = [0i16; SPEECH_LENGTH];
-    block::words(x, 235, &mut out[..TAIL_LENGTH]);
-    out
-}
-
 // The past excitation that a frame leaves.
 fn past_of(exc: &[i16; EXC_LENGTH]) -> [i16; PAST_LENGTH]
     ensures { result ≡ drop frame_length exc.now }
@@ -75,6 +58,7 @@ fn past_of(exc: &[i16; EXC_LENGTH]) -> [i16; PAST_LENGTH]
 }
 
 // A slot behind a frame of far samples y; one without a candidate stays as it is.
+#[tactic(auto, unfolding(crate::specs::Slots::tried))]
 fn tried(
     t: &[i16],
     v: Decoded,
@@ -86,12 +70,13 @@ fn tried(
     if x[0] < 0 {
         return x;
     }
-    let mut exc = slot_exc(&x);
-    let mut speech = slot_speech(&x);
-    decoder::frame_signal(t, v, &mut exc, &mut speech);
-    let n = same_samples(y, &speech);
-    let past = past_of(&exc);
-    slot_of(n as i16, &past, &speech)
+    let mut w = Buffers {
+        exc: state::opened(&x, 1),
+        speech: state::opened(&x, 235),
+    };
+    w.frame_signal(t, &v);
+    let n = same_samples(y, &w.speech);
+    slot_of(n as i16, &past_of(&w.exc), &w.speech)
 }
 
 // Slot i.
@@ -158,15 +143,7 @@ fn same_slot(s: &[i16], i: usize, j: usize) -> bool
     requires j_bound { j < 8 }
     ensures { result ≡ same_slot s.now i j }
 {
-    let mut ok = true;
-    for k in 0..SLOT_LENGTH {
-        let a = word(s, SLOT_LENGTH * i + k);
-        let b = word(s, SLOT_LENGTH * j + k);
-        if (a < b) | (b < a) {
-            ok = false;
-        }
-    }
-    ok
+    slot(s, i) == slot(s, j)
 }
 
 // Whether slot j has the candidate of slot i, which gave all samples.
@@ -175,10 +152,7 @@ fn repeated(s: &[i16], j: usize, i: usize) -> bool
     requires j_bound { j < 8 }
     ensures { result ≡ fits s.now j && same_slot s.now j i }
 {
-    if fits(s, j) {
-        return same_slot(s, j, i);
-    }
-    false
+    fits(s, j) && same_slot(s, j, i)
 }
 
 // Whether candidate i gave all samples, and no slot before it has the same candidate.

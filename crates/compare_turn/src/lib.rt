@@ -2,46 +2,69 @@
 #![tactic(auto)]
 
 ghost use Rattle.std.specs.Prelude.{◌≡◌, ◌+◌, ◌^◌, ◌<◌, ◌≤◌, length};
-ghost use Rattle.compare_turn.specs.Turn.{Within, start, call_at, far_at, next};
+ghost use Rattle.far.specs.Far.{form_of};
+ghost use Rattle.compare_turn.specs.Turn.{Within, start, at_hand, call_at, far_at, with_far, without_far, next};
 
-use count::{Counted, Counts};
-use line::{LONGEST, Read};
+use compare_step::Class;
+use count::Counts;
+use far::Form;
+use line::LONGEST;
 use print::FRAME_ROOM;
+use refusal::Refusal;
 use report::forms::ROOM;
-use report::{First, REFUSED, Stretch, Tally, Told};
+use report::{First, Stretch, Tally};
 
 // The bytes of the most that is printed for a frame: the end of a stretch, and its own form.
 const STEP_ROOM: usize = 2 * ROOM;
 
-// What a file has at hand: too little to tell, a whole line or frame, no line though there are bytes, or nothing more.
-pub const WAIT: u32 = 0;
+// What a file has at hand, each with its number.
+#[derive(Clone, Copy, Debug, PartialEq, Eq)]
+pub enum AtHand {
+    // Too little to tell.
+    Wait = 0,
+    // A whole line or frame.
+    Ready = 1,
+    // No line though there are bytes.
+    Bad = 2,
+    // Nothing more.
+    End = 3,
+}
 
-pub const READY: u32 = 1;
+// What a number says is at hand; another number says that it is a line or frame.
+impl From<u32> for AtHand {
+    ghost from_gives = { λ n a. a ≡ at_hand n };
 
-pub const BAD: u32 = 2;
+    fn from(n: u32) -> Self {
+        match n {
+            0 => AtHand::Wait,
+            2 => AtHand::Bad,
+            3 => AtHand::End,
+            _ => AtHand::Ready,
+        }
+    }
+}
 
-pub const END: u32 = 3;
+// What follows.
+#[derive(Clone, Copy, Debug, PartialEq, Eq)]
+pub enum Follows {
+    // A further turn.
+    Go,
+    Read,
+    // A line is refused.
+    Refuse,
+    FarEnds,
+    CallEnds,
+    // Both have ended.
+    Done,
+}
 
-// What follows: a further turn, a read, a refused line, or the end of one or of both.
-pub const GO: u32 = 0;
-
-pub const READ: u32 = 1;
-
-pub const REFUSE: u32 = 2;
-
-pub const FAR_ENDS: u32 = 3;
-
-pub const CALL_ENDS: u32 = 4;
-
-pub const DONE: u32 = 5;
-
-// How far a comparison is: 0, or the number of the refusal that ended it; and what was counted.
+// How far a comparison is: the refusal that ended it, if one did; and what was counted.
 #[derive(Clone, Copy)]
 pub struct Standing {
-    pub code: u32,
+    pub refused: Option<Refusal>,
     pub tally: Tally,
-    pub stretch: Stretch,
-    pub first: First,
+    pub stretch: Option<Stretch>,
+    pub first: Option<First>,
 }
 
 // The standing behind a frame, and how many bytes were printed, of the report and of the samples.
@@ -66,135 +89,89 @@ pub struct Taken {
 pub fn start() -> Standing
     ensures { result ≡ start }
 {
-    let tally = report::none();
     Standing {
-        code: 0,
-        tally,
-        stretch: Stretch { from: 0, differ: 0 },
-        first: First {
-            frame: 0,
-            told: Told {
-                class: 0,
-                number: 0,
-                rest: 0,
-            },
-        },
+        refused: None,
+        tally: Tally::none(),
+        stretch: None,
+        first: None,
     }
 }
 
-// What was counted as it is, with another code.
-fn with_code(at: Standing, code: u32) -> Standing {
-    let tally = at.tally;
-    let stretch = at.stretch;
-    let first = at.first;
-    Standing {
-        code,
-        tally,
-        stretch,
-        first,
-    }
-}
-
-// A refused frame prints nothing.
-fn stopped(at: Standing, code: u32) -> Stepped
+// A refused frame prints nothing, and what was counted stays.
+fn stopped(at: Standing, r: Refusal) -> Stepped
     ensures { (result.written ≡ 0) × (result.printed ≡ 0) }
 {
-    let at = with_code(at, code);
     Stepped {
-        at,
+        at: Standing {
+            refused: Some(r),
+            ..at
+        },
         written: 0,
         printed: 0,
     }
 }
 
 // What was counted, with a frame.
-fn counted(from: Standing, counts: Counts, told: Told) -> Standing {
-    let tally = from.tally;
-    let stretch = from.stretch;
-    let first = from.first;
+fn counted(from: Standing, counts: Counts, c: Class) -> Standing {
     let n = counts.frames;
-    let tally = report::add(tally, counts, told.class);
-    let stretch = report::reached(stretch, n, told.class);
-    let first = report::earliest(first, n, told);
     Standing {
-        code: 0,
-        tally,
-        stretch,
-        first,
+        refused: None,
+        tally: from.tally.add(counts, c),
+        stretch: report::reached(from.stretch, n, c),
+        first: report::earliest(from.first, n, c),
     }
-}
-
-// The first n bytes of a form, at the front of `out`.
-fn put(form: &[u8; ROOM], n: usize, out: &mut [u8]) -> usize
-    requires { (n ≤ 160) × (n ≤ length out.old) }
-    ensures { result ≡ n }
-{
-    let view: &[u8] = form;
-    octets::copy(&view[0..n], out)
 }
 
 // The form of a stretch whose last frame is `to`, at the front of `out`, where there is one.
-fn close(s: Stretch, to: u32, out: &mut [u8]) -> usize
+fn close(s: Option<Stretch>, to: u32, out: &mut [u8]) -> usize
     requires { 160 ≤ length out.old }
     ensures { result ≤ 160 }
 {
-    if s.from == 0 {
+    let Some(s) = s else {
         return 0;
-    }
+    };
     let mut form = [0u8; ROOM];
     let n = report::forms::stretch(s, to, &mut form);
-    put(&form, n, out)
+    octets::copy(&form[0..n], out)
 }
 
 // The stretch that ends before a frame of this class.
-fn ended(s: Stretch, class: u32) -> Stretch {
-    if report::computed(class) {
-        return Stretch { from: 0, differ: 0 };
-    }
-    s
+fn ended(s: Option<Stretch>, c: Class) -> Option<Stretch> {
+    if report::computed(c) { None } else { s }
 }
 
 // What is printed for frame n: the stretch that ends before it with frame `last`, and its form.
-fn print(before: Stretch, last: u32, n: u32, told: Told, out: &mut [u8]) -> usize
+fn print(before: Option<Stretch>, last: u32, n: u32, c: Class, out: &mut [u8]) -> usize
     requires { 320 ≤ length out.old }
     ensures { result ≤ 320 }
 {
-    let at = close(ended(before, told.class), last, out);
+    let at = close(ended(before, c), last, out);
     let mut form = [0u8; ROOM];
-    let k = report::forms::frame(n, told, &mut form);
-    at + put(&form, k, &mut out[at..])
-}
-
-// The first n bytes of a printed frame, at the front of `out`.
-fn put_samples(form: &[u8; FRAME_ROOM], n: usize, out: &mut [u8]) -> usize
-    requires { (n ≤ 327) × (n ≤ length out.old) }
-    ensures { result ≡ n }
-{
-    let view: &[u8] = form;
-    octets::copy(&view[0..n], out)
+    let k = report::forms::frame(n, c, &mut form);
+    at + octets::copy(&form[0..k], &mut out[at..])
 }
 
 // The samples that were computed for a frame, in the printed form, or `(none)`; nothing where they are not wanted.
-fn samples(wanted: bool, class: u32, computed: &[i16; 80], out: &mut [u8]) -> usize
+fn samples(wanted: bool, c: Class, computed: &[i16; 80], out: &mut [u8]) -> usize
     requires { 327 ≤ length out.old }
     ensures { result ≤ 327 }
 {
     if !wanted {
         return 0;
     }
-    if !report::computed(class) {
+    if !report::computed(c) {
         return octets::copy(b"(none)\n", out);
     }
     let mut form = [0u8; FRAME_ROOM];
     let n = print::pcm(computed, &mut form);
-    put_samples(&form, n, out)
+    octets::copy(&form[0..n], out)
 }
 
-// A frame with its answer: it is printed and counted, or refused.
+// A frame with its answer: it is printed and counted.
 fn answered(
     from: Standing,
     counts: Counts,
-    told: Told,
+    c: Class,
     wanted: bool,
     computed: &[i16; 80],
     out: &mut [u8],
@@ -203,19 +180,16 @@ fn answered(
     requires { (320 ≤ length out.old) × (327 ≤ length pcm.old) }
     ensures { (result.written ≤ 320) × (result.printed ≤ 327) }
 {
-    if told.class == REFUSED {
-        return stopped(from, told.number);
-    }
-    let tally = from.tally;
-    let before = tally.counts;
-    let stretch = from.stretch;
-    let written = print(stretch, before.frames, counts.frames, told, out);
-    let printed = samples(wanted, told.class, computed, pcm);
-    let at = counted(from, counts, told);
     Stepped {
-        at,
-        written,
-        printed,
+        at: counted(from, counts, c),
+        written: print(
+            from.stretch,
+            from.tally.counts.frames,
+            counts.frames,
+            c,
+            out,
+        ),
+        printed: samples(wanted, c, computed, pcm),
     }
 }
 
@@ -236,9 +210,10 @@ fn compared(
     ensures { (result.written ≤ 320) × (result.printed ≤ 327) }
 {
     let mut computed = [0i16; 80];
-    let answer = compare_step::compare(t, m, kind, payload, far, &mut computed);
-    let told = report::in_numbers(answer);
-    answered(from, counts, told, wanted, &computed, out, pcm)
+    match compare_step::compare(t, m, kind, payload, far, &mut computed) {
+        Err(r) => stopped(from, r),
+        Ok(c) => answered(from, counts, c, wanted, &computed, out, pcm),
+    }
 }
 
 // A frame of this kind: it is counted first, and the first refusal ends the comparison.
@@ -256,12 +231,9 @@ fn frame(
     requires { (320 ≤ length out.old) × (327 ≤ length pcm.old) }
     ensures { (result.written ≤ 320) × (result.printed ≤ 327) }
 {
-    let tally = from.tally;
-    let counts = tally.counts;
-    let answer = count::count(kind, rule::frame_rules(kind, payload), counts);
-    match answer {
-        Counted::Refused(code) => stopped(from, code),
-        Counted::Done(next) => { compared(t, m, from, next, kind, payload, far, wanted, out, pcm) }
+    match count::count(kind, rule::frame_rules(kind, payload), from.tally.counts) {
+        Err(r) => stopped(from, r),
+        Ok(next) => compared(t, m, from, next, kind, payload, far, wanted, out, pcm),
     }
 }
 
@@ -280,12 +252,11 @@ fn step(
     ensures { (result.written ≤ 320) × (result.printed ≤ 327) }
 {
     let mut payload = [0u8; 10];
-    let answer = line::line(text, &mut payload);
-    match answer {
-        Read::Refused(code) => stopped(from, code),
-        Read::Frame(kind) => {
+    match line::line(text, &mut payload) {
+        Err(r) => stopped(from, r),
+        Ok(kind) => {
             let n = kind::payload_length(kind);
-            frame(t, m, from, kind, &payload[0..n], far, wanted, out, pcm)
+            frame(t, m, from, kind, &payload[..n], far, wanted, out, pcm)
         }
     }
 }
@@ -295,7 +266,7 @@ fn take(
     t: &[i16],
     m: &mut [i16],
     from: Standing,
-    form: u32,
+    form: Form,
     call: &[u8],
     far: &[u8],
     wanted: bool,
@@ -309,15 +280,12 @@ fn take(
     if end == call.len() {
         return nothing(from);
     }
-    let found = far::frame(form, far);
-    if found.bytes == 0 {
+    let Some(found) = form.frame(far) else {
         return nothing(from);
-    }
-    let samples = found.samples;
-    let s = step(t, m, from, &call[0..end], &samples, wanted, out, pcm);
-    let at = s.at;
+    };
+    let s = step(t, m, from, &call[0..end], &found.samples, wanted, out, pcm);
     Taken {
-        at,
+        at: s.at,
         line: end + 1,
         frame: found.bytes,
         written: s.written,
@@ -343,9 +311,8 @@ fn both(a: Taken, b: Taken) -> Taken
     requires { (a.line + b.line < 2 ^ 64) × ((a.frame + b.frame < 2 ^ 64) × ((a.written + b.written < 2 ^ 64) × (a.printed + b.printed < 2 ^ 64))) }
     ensures { (result.line ≡ a.line + b.line) × ((result.frame ≡ a.frame + b.frame) × ((result.written ≡ a.written + b.written) × (result.printed ≡ a.printed + b.printed))) }
 {
-    let at = b.at;
     Taken {
-        at,
+        at: b.at,
         line: a.line + b.line,
         frame: a.frame + b.frame,
         written: a.written + b.written,
@@ -358,7 +325,7 @@ fn behind(
     t: &[i16],
     m: &mut [i16],
     all: Taken,
-    form: u32,
+    form: Form,
     call: &[u8],
     far: &[u8],
     wanted: bool,
@@ -392,7 +359,7 @@ fn more(
     t: &[i16],
     m: &mut [i16],
     all: Taken,
-    form: u32,
+    form: Form,
     call: &[u8],
     far: &[u8],
     wanted: bool,
@@ -408,14 +375,13 @@ fn more(
     if pcm.len() - all.printed < FRAME_ROOM {
         return all;
     }
-    let at = all.at;
-    if at.code != 0 {
+    if all.at.refused.is_some() {
         return all;
     }
     behind(t, m, all, form, call, far, wanted, out, pcm)
 }
 
-// Takes frames until a file has none at hand, there is no room for what one may print, or one is refused.
+// Takes frames until a file has none at hand, there is no room for what one may print, or one is refused. The far file's form is a number here and below: any is taken.
 pub fn turn(
     t: &[i16],
     m: &mut [i16],
@@ -429,8 +395,10 @@ pub fn turn(
 ) -> Taken
     ensures { Within call.now far.now (length out.old) (length pcm.old) result }
 {
+    let form = Form::from(form);
     let mut all = nothing(from);
     let mut going = true;
+    // No `for`: a turn that takes no line is the last, and no number of turns is known.
     while going {
         let next = more(t, m, all, form, call, far, wanted, out, pcm);
         going = all.line < next.line;
@@ -440,57 +408,73 @@ pub fn turn(
 }
 
 // What a call has at hand, whose file has ended or not.
-pub fn call_at(call: &[u8], ended: bool) -> u32
+pub fn call_at(call: &[u8], ended: bool) -> AtHand
     ensures { result ≡ call_at call.now ended }
 {
     let n = octets::find(call, 0, call.len(), 10);
     if n < call.len() {
-        return READY;
+        return AtHand::Ready;
     }
     if LONGEST < n {
-        return BAD;
+        return AtHand::Bad;
     }
     if !ended {
-        return WAIT;
+        return AtHand::Wait;
     }
     if n == 0 {
-        return END;
+        return AtHand::End;
     }
-    BAD
+    AtHand::Bad
 }
 
 // What a file of far samples has at hand: a printed one ends before a line of another form.
-pub fn far_at(form: u32, far: &[u8], ended: bool) -> u32
-    ensures { result ≡ far_at form far.now ended }
+pub fn far_at(form: u32, far: &[u8], ended: bool) -> AtHand
+    ensures { result ≡ far_at (form_of form) far.now ended }
 {
-    let found = far::frame(form, far);
-    if found.bytes != 0 {
-        return READY;
+    let form = Form::from(form);
+    if form.frame(far).is_some() {
+        return AtHand::Ready;
     }
     if (far.len() < FRAME_ROOM) & !ended {
-        return WAIT;
+        return AtHand::Wait;
     }
-    END
+    AtHand::End
 }
 
-// What follows, by what both have at hand. A line is refused only where there are samples for it.
-pub fn next(call: u32, far: u32) -> u32
-    ensures { result ≡ next call far }
+// What follows where there is a far frame, or bytes that may become one.
+fn with_far(call: AtHand) -> Follows
+    ensures { result ≡ with_far call }
 {
-    if (call == WAIT) | (far == WAIT) {
-        return READ;
+    match call {
+        AtHand::Wait => Follows::Read,
+        AtHand::Ready => Follows::Go,
+        AtHand::Bad => Follows::Refuse,
+        AtHand::End => Follows::CallEnds,
     }
-    if far == END {
-        if call == END {
-            return DONE;
-        }
-        return FAR_ENDS;
+}
+
+// What follows where the far file has ended.
+fn without_far(call: AtHand) -> Follows
+    ensures { result ≡ without_far call }
+{
+    match call {
+        AtHand::Wait => Follows::Read,
+        AtHand::Ready => Follows::FarEnds,
+        AtHand::Bad => Follows::FarEnds,
+        AtHand::End => Follows::Done,
     }
-    if call == END {
-        return CALL_ENDS;
+}
+
+// What follows, by the numbers of what both have at hand. A line is refused only where there are samples for it.
+pub fn next(call: u32, far: u32) -> Follows
+    ensures { result ≡ next (at_hand call) (at_hand far) }
+{
+    let call = AtHand::from(call);
+    let far = AtHand::from(far);
+    match far {
+        AtHand::Wait => Follows::Read,
+        AtHand::Ready => with_far(call),
+        AtHand::Bad => with_far(call),
+        AtHand::End => without_far(call),
     }
-    if call == BAD {
-        return REFUSE;
-    }
-    GO
 }

@@ -18,8 +18,9 @@ fn put(rt: &HostRuntime, i: usize, from: usize, names: &mut [u8]) -> usize
     ensures { result ≤ from + 4096 }
 {
     let mut word = [0u8; 4096];
-    let n = words::lesser(files::argument(rt, i, b"", &mut word), LONGEST);
-    let at = print::put(&word[0..n], from, names);
+    let word = files::argument(rt, Some(i), b"", &mut word);
+    let n = word.len().min(LONGEST);
+    let at = print::put(&word[..n], from, names);
     print::put(b"\0", at, names)
 }
 
@@ -29,10 +30,8 @@ fn put_all(rt: &HostRuntime, n: usize, names: &mut [u8]) -> usize
     ensures { result ≤ 36864 }
 {
     let mut at = 0;
-    let mut i = 0;
-    while i < n {
+    for i in 0..n {
         at = put(rt, i + 1, at, names);
-        i += 1;
     }
     at
 }
@@ -47,7 +46,7 @@ fn run(rt: &HostRuntime, n: usize)
 }
 
 fn main(rt: HostRuntime) {
-    if !files::standard_open(&rt) {
+    if files::standard_open(&rt).is_err() {
         return;
     }
     let a = files::asked(&rt, 2, WORDS);
@@ -63,6 +62,6 @@ fn main(rt: HostRuntime) {
         b"Makes what each leg of a conference heard, the sum of all others: OUT-1.wav for the first leg, OUT-2.wav for the second, and so on,\nlinear PCM of 16 bits, one channel, 8,000 samples a second.\n\n  decode <a.call >a.samples\n  conference monday a.samples mu:b.ul c.wav\n\n  OUT         what the names of the new files begin with\n  LEG         1 to 8, each a file or a pipe:\n                printed samples, as decode and g711_leg read print them\n                a WAV file, A-law or mu-law of 8 bits or linear PCM of 16, one channel, 8,000 a second\n                a:FILE or mu:FILE, G.711 bytes of A-law or mu-law\n  --help      this text\n  --version   the version\n\nLegs may have unlike lengths: one that has ended is silent, and still hears the others. Pipes need a writer each. No file is overwritten. Where a leg is refused or a file can't be\nwritten the reason is said on standard error, and no file is left. (written (legs K) (frames N)) is printed at the end; the exit status\nis 0 in any case. Every ten minutes of sound that are done are told on standard error.\n",
     );
     if !done {
-        run(&rt, words::lesser(a.operands, WORDS));
+        run(&rt, a.operands.min(WORDS));
     }
 }

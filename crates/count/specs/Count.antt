@@ -1,13 +1,11 @@
 -- The operation Count (01, "Operations and their refusals"; change request 12). A call has at most 360,000 frames; those of kinds 1 (SID), 2 (no transmission) and 3 (erased) are
 -- counted as lost, since all three are concealed. Each of a frame's two subframes is counted by the rule of its delay.
-use Rattle.std.specs.Prelude.{Bool, cond, ◌||◌, ◌&&◌, List, [], ◌∷◌, ℕ, ◌+◌, ◌*◌, min, eqb, leb, get_or}
+use Rattle.std.specs.Prelude.{Bool, cond, ◌||◌, ◌&&◌, List, [], ◌∷◌, ℕ, ◌+◌, ◌*◌, min, eqb, leb, get_or, Result, Ok, Err}
 use Rattle.kind.specs.Kind.{known}
 use Rattle.rule.specs.declared.Rule.{Rule}
 use Rattle.rule.specs.declared.Rule.TheVariants.{Thirds, Whole, Relative, BadParity, Concealed}
 use Rattle.rule.specs.declared.Rules.{Rules}
 use Rattle.count.specs.declared.Counts.{Counts}
-use Rattle.count.specs.declared.Counted.{Counted}
-use Rattle.count.specs.declared.Counted.TheVariants.{Refused, Done}
 
 -- the most frames of a call, and the most subframes
 abbrev pub most : ℕ
@@ -60,8 +58,8 @@ unfoldable pub with_both : ℕ → Rules → Counts → Counts
 with_both kind r c = with_rule (with_rule (with_frame kind c) r.first) r.second
 
 -- 5: kind above 3. 10: a count is at or above its limit. A kind and rules that don't go together are counted as they are.
-unfoldable pub count : ℕ → Rules → Counts → Counted
-count kind r c = cond (known kind) (cond (full c) (Refused 10) (Done (with_both kind r c))) (Refused 5)
+unfoldable pub count : ℕ → Rules → Counts → Result Counts ℕ
+count kind r c = cond (known kind) (cond (full c) (Err 10) (Ok (with_both kind r c))) (Err 5)
 
 -- n frames are counted
 unfoldable pub frames_are : ℕ → Counts → Bool

@@ -1,5 +1,5 @@
 -- Laws of the counts: what a frame that is counted adds, which refusals there are, and that the counters of the rules add up to twice the frames. Assumes nothing.
-use Rattle.std.specs.Prelude.{◌≡◌, refl, Bool, true, false, cond, ◌||◌, ◌&&◌, List, [], ◌∷◌, ℕ, zero, suc, ◌+◌, ◌*◌, ◌^◌, ◌≤◌, ◌<◌, min, T, eqb, leb, get_or}
+use Rattle.std.specs.Prelude.{◌≡◌, refl, Bool, true, false, cond, ◌||◌, ◌&&◌, List, [], ◌∷◌, ℕ, zero, suc, ◌+◌, ◌*◌, ◌^◌, ◌≤◌, ◌<◌, min, T, eqb, leb, get_or, Result, Ok, Err}
 use Rattle.std.proofs.Common.{subst, arith, eq-eqb, eqb-true, le-leb, leb-true, leb-false}
 use Rattle.std.proofs.lemmas.Bool.{lt-leb}
 use Rattle.kind.specs.Kind.{known}
@@ -9,8 +9,6 @@ use Rattle.rule.specs.declared.Rule.TheVariants.{Thirds, Whole, Relative, BadPar
 use Rattle.rule.specs.declared.Rules.{Rules}
 use Rattle.rule.specs.Rule.{number}
 use Rattle.count.specs.declared.Counts.{Counts}
-use Rattle.count.specs.declared.Counted.{Counted}
-use Rattle.count.specs.declared.Counted.TheVariants.{Refused, Done}
 use Rattle.count.specs.Count.{most, most_subframes, no_counts, full, subframes, fits, with_frame, with_rule, with_both, count, frames_are, numbers, of_numbers}
 
 -- ---- room
@@ -180,17 +178,17 @@ pub fits_both : (c : Counts) → fits c ≡ true → subframes c ≡ 2 * c.frame
 fits_both c h = (fitting c h).both
 
 -- what an answer says of the counts
-counted : (kind : ℕ) (r : Rules) (c d : Counts) → count kind r c ≡ Done d → (full c ≡ false) × (d ≡ with_both kind r c)
+counted : (kind : ℕ) (r : Rules) (c d : Counts) → count kind r c ≡ Ok d → (full c ≡ false) × (d ≡ with_both kind r c)
 unfolding count
 counted kind r c d = by (known kind) (full c) refl
   where
-    by : (p q : Bool) → full c ≡ q → cond p (cond q (Refused 10) (Done (with_both kind r c))) (Refused 5) ≡ Done d → (full c ≡ false) × (d ≡ with_both kind r c)
+    by : (p q : Bool) → full c ≡ q → cond {A = Result Counts ℕ} p (cond q (Err 10) (Ok (with_both kind r c))) (Err 5) ≡ Ok d → (full c ≡ false) × (d ≡ with_both kind r c)
     by true false e h = (e, cc)
     by true true e h = let z : ◌≡◌ {A = ℕ} 0 1 = cc in absurd (omega arith)
     by false q e h = let z : ◌≡◌ {A = ℕ} 0 1 = cc in absurd (omega arith)
 
 -- a frame that is counted is one more, and not the 360,001st
-pub more : (kind : ℕ) (r : Rules) (c d : Counts) → count kind r c ≡ Done d → (d.frames ≡ c.frames + 1) × (c.frames < most)
+pub more : (kind : ℕ) (r : Rules) (c d : Counts) → count kind r c ≡ Ok d → (d.frames ≡ c.frames + 1) × (c.frames < most)
 more kind r c d h =
     let e = counted kind r c d h in
     (rw e.1 (adds kind r c).frames, (room c e.0).frames)
@@ -204,7 +202,7 @@ lost_more : (p : Bool) (lost frames : ℕ) → lost ≤ frames → cond p lost (
 lost_more true lost frames h = omega arith
 lost_more false lost frames h = omega arith
 
-pub fits_more : (kind : ℕ) (r : Rules) (c d : Counts) → fits c ≡ true → count kind r c ≡ Done d → fits d ≡ true
+pub fits_more : (kind : ℕ) (r : Rules) (c d : Counts) → fits c ≡ true → count kind r c ≡ Ok d → fits d ≡ true
 fits_more kind r c d f h =
     let e = counted kind r c d h in
     let m = (room c e.0).frames in
@@ -214,20 +212,20 @@ fits_more kind r c d f h =
     (fits_of (with_both kind r c) (omega (arith, a.frames, m)) (rw (a.frames, a.lost) g) (omega (arith, a.two, a.frames, (fitting c f).both)))
 
 -- a refusal has a number, and of a frame of one of the kinds it is 10
-pub refused_some : (kind n : ℕ) (r : Rules) (c : Counts) → count kind r c ≡ Refused n → 0 < n
+pub refused_some : (kind n : ℕ) (r : Rules) (c : Counts) → count kind r c ≡ Err n → 0 < n
 unfolding count
 refused_some kind n r c = by (known kind) (full c)
   where
-    by : (p q : Bool) → cond p (cond q (Refused 10) (Done (with_both kind r c))) (Refused 5) ≡ Refused n → 0 < n
+    by : (p q : Bool) → cond {A = Result Counts ℕ} p (cond q (Err 10) (Ok (with_both kind r c))) (Err 5) ≡ Err n → 0 < n
     by true true h = let z : 10 ≡ n = cc in omega arith
     by true false h = let z : ◌≡◌ {A = ℕ} 0 1 = cc in absurd (omega arith)
     by false q h = let z : 5 ≡ n = cc in omega arith
 
-pub refused_full : (kind n : ℕ) (r : Rules) (c : Counts) → kind ≤ 3 → count kind r c ≡ Refused n → n ≡ 10
+pub refused_full : (kind n : ℕ) (r : Rules) (c : Counts) → kind ≤ 3 → count kind r c ≡ Err n → n ≡ 10
 unfolding count
 refused_full kind n r c k = rw (low_known kind k) (by (full c))
   where
-    by : (q : Bool) → cond q (Refused 10) (Done (with_both kind r c)) ≡ Refused n → n ≡ 10
+    by : (q : Bool) → cond {A = Result Counts ℕ} q (Err 10) (Ok (with_both kind r c)) ≡ Err n → n ≡ 10
     by true h = cc
     by false h = let z : ◌≡◌ {A = ℕ} 0 1 = cc in absurd (omega arith)
 
@@ -249,7 +247,7 @@ not_full c h m =
       lt-leb most_subframes c.concealed (omega (arith, e.1.1.1.1)),
     )
 
-pub not_refused : (kind : ℕ) (r : Rules) (c : Counts) → kind ≤ 3 → fits c ≡ true → c.frames < most → count kind r c ≡ Done (with_both kind r c)
+pub not_refused : (kind : ℕ) (r : Rules) (c : Counts) → kind ≤ 3 → fits c ≡ true → c.frames < most → count kind r c ≡ Ok (with_both kind r c)
 unfolding count
 not_refused kind r c k h m = rw (low_known kind k, not_full c h m)
 
@@ -275,7 +273,7 @@ pub frames_few : (n : ℕ) (c : Counts) → fits c ≡ true → frames_are n c �
 unfolding frames_are
 frames_few n c h e = omega (arith, (fitting c h).few, eqb-true n c.frames e)
 
-pub frames_more : (kind n : ℕ) (r : Rules) (c d : Counts) → count kind r c ≡ Done d → frames_are n c ≡ true → (frames_are (n + 1) d ≡ true) × (n < most)
+pub frames_more : (kind n : ℕ) (r : Rules) (c d : Counts) → count kind r c ≡ Ok d → frames_are n c ≡ true → (frames_are (n + 1) d ≡ true) × (n < most)
 unfolding frames_are
 frames_more kind n r c d h e =
     let m = more kind r c d h in
@@ -289,9 +287,9 @@ pub record Call : Type 0 where
   pub rules : Rules
 
 -- a refusal leaves the counts as they were
-unfoldable pub kept : Counts → Counted → Counts
-kept c (Refused n) = c
-kept c (Done d) = d
+unfoldable pub kept : Counts → Result Counts ℕ → Counts
+kept c (Err n) = c
+kept c (Ok d) = d
 
 unfoldable pub counts_after : List Call → Counts → Counts
 counts_after [] c = c
@@ -301,9 +299,9 @@ kept_both : (kind : ℕ) (r : Rules) (c : Counts) → subframes c ≡ 2 * c.fram
 unfolding kept
 kept_both kind r c h = by (count kind r c) refl
   where
-    by : (a : Counted) → count kind r c ≡ a → subframes (kept c a) ≡ 2 * (kept c a).frames
-    by (Refused n) e = h
-    by (Done d) e =
+    by : (a : Result Counts ℕ) → count kind r c ≡ a → subframes (kept c a) ≡ 2 * (kept c a).frames
+    by (Err n) e = h
+    by (Ok d) e =
         let a = adds kind r c in
         rw (counted kind r c d e).1 (omega (arith, h, a.frames, a.two))
 

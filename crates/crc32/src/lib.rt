@@ -20,10 +20,8 @@ fn byte(c: u32, b: u8) -> u32
     ensures { result ≡ byte c b }
 {
     let mut x = c ^ (b as u32);
-    let mut i = 0u32;
-    while i < 8 {
+    for _ in 0..8u32 {
         x = bit(x);
-        i += 1;
     }
     x
 }
@@ -33,10 +31,8 @@ pub fn more(sum: u32, bytes: &[u8]) -> u32
     ensures { result ≡ more sum bytes.now }
 {
     let mut c = sum ^ 0xffffffff;
-    let mut i = 0;
-    while i < bytes.len() {
-        c = byte(c, bytes[i]);
-        i += 1;
+    for b in bytes {
+        c = byte(c, *b);
     }
     c ^ 0xffffffff
 }

@@ -1,5 +1,5 @@
 -- The frame call (01, "Operations and their refusals", Frame): a table block, a state block, a kind, a payload and room for the samples.
-use Rattle.std.specs.Prelude.{ℕ, cond, List, eqb, ℤ, length}
+use Rattle.std.specs.Prelude.{ℕ, cond, List, eqb, ℤ, length, Result, Ok, Err}
 use Rattle.block.specs.Places.{frame_length}
 use Rattle.tables.specs.Layout.{table_check}
 use Rattle.kind.specs.Kind.{known, payload_length}
@@ -9,8 +9,6 @@ use Rattle.rule.specs.declared.Report.{Report}
 use Rattle.rule.specs.Rule as rule
 use Rattle.state.specs.State.{read, write, state_check}
 use Rattle.parameters.specs.declared.Decoded.{Decoded}
-use Rattle.decoder.specs.declared.Framed.{Framed}
-use Rattle.decoder.specs.declared.Framed.TheVariants.{Refused, Done}
 use Rattle.decoder.specs.Frame.{decode}
 
 -- ---- refusals
@@ -34,13 +32,13 @@ abbrev pub report : Decision → Decoded → Report
 report d v = rule.report d v.first.delay v.second.delay
 
 -- 01's number for each case
-abbrev pub code : Framed → ℕ
-code (Refused n) = n
-code (Done r) = 0
+abbrev pub code : Result Report ℕ → ℕ
+code (Err n) = n
+code (Ok r) = 0
 
 -- what the call answers, and the state block and the output as it leaves them
 pub data Answer : Type 0 where
-  answer : Framed → List ℤ → List ℤ → Answer
+  answer : Result Report ℕ → List ℤ → List ℤ → Answer
 
 -- the number that a call returns, and the state block and the output that it leaves
 abbrev pub number : Answer → ℕ
@@ -53,7 +51,7 @@ abbrev pub output : Answer → List ℤ
 output (answer r b out) = out
 
 -- the refusal, or what was handed up
-abbrev pub handed : Answer → Framed
+abbrev pub handed : Answer → Result Report ℕ
 handed (answer r b out) = r
 
 -- ---- the call
@@ -63,4 +61,4 @@ unfoldable pub frame : List ℤ → List ℤ → ℕ → List ℕ → List ℤ �
 frame t b kind payload out =
     let f = decode t (decide kind payload) (read b) in
     let n = refusal t b kind payload (length out) in
-    cond (eqb n 0) (answer (Done (report (decide kind payload) f.decoded)) (write f.state) f.samples) (answer (Refused n) b out)
+    cond (eqb n 0) (answer (Ok (report (decide kind payload) f.decoded)) (write f.state) f.samples) (answer (Err n) b out)

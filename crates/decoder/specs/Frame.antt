@@ -10,14 +10,11 @@ use Rattle.state.specs.State.{Signal, State}
 use Rattle.parameters.specs.declared.Subframe.{Subframe}
 use Rattle.parameters.specs.declared.Decoded.{Decoded}
 use Rattle.parameters.specs.Parameters.{parameters}
+use Rattle.decoder.specs.declared.Buffers.{Buffers}
 
 -- ---- signal
 
 -- the frame's 234 words of excitation and 90 of speech (clause 4.1.6)
-pub record Buffers : Type 0 where
-  pub exc : List ℤ
-  pub speech : List ℤ
-
 abbrev pub buffers : (exc speech : List ℤ) → Buffers
 buffers exc speech = record { exc = exc; speech = speech }
 

@@ -1,14 +1,17 @@
 -- Laws of a frame's signal and of the frame call, from what the calls inside them give.
 use Prim.Native.Nat.{ℕ, zero, suc, ◌<◌}
-use Rattle.std.specs.Prelude.{◌≡◌, Bool, true, false, cond, List, ◌++◌, eqb, ℤ, pos, length, replicate}
+use Rattle.std.specs.Prelude.{◌≡◌, Bool, true, false, cond, Result, Ok, Err, List, ◌++◌, eqb, ℤ, length}
 use Rattle.std.proofs.Math.Path.{refl, ap}
 use Rattle.std.proofs.Common.{sym, ◌∙◌, arith}
 use borrow.Author.Tests.{eqb-true, eq-eqb, ne_eqb}
 use Rattle.std.proofs.Math.Dec.{eqb-suc-zero}
 use Rattle.std.proofs.Math.ListN.{drop}
+use Rattle.refusal.specs.declared.Refusal.{Refusal}
+use Rattle.refusal.specs.Refusal.{number as number_of, code as code_of, numbered}
+use Rattle.refusal.specs.Laws.{nonzero}
 use Rattle.block.specs.Block.{part}
 use Rattle.block.specs.Laws.{last_part}
-use Rattle.block.specs.Places.{frame_length, past_length, tail_length, speech_length, past_place, tail_place, state_length}
+use Rattle.block.specs.Places.{frame_length, tail_length, speech_length, state_length}
 use Rattle.tables.specs.Layout.{table_check}
 use Rattle.plc.specs.declared.Decision.{Decision}
 use Rattle.kind.specs.Kind.{known, payload_length}
@@ -19,25 +22,24 @@ use Rattle.state.specs.declared.Params.{Params}
 use Rattle.state.specs.Laws.{accepted_of_check, accepted_parts}
 use Rattle.parameters.specs.declared.Decoded.{Decoded}
 use Rattle.parameters.specs.Parameters.{parameters}
-use Rattle.decoder.specs.declared.Framed.TheVariants.{Refused, Done}
-use Rattle.decoder.specs.Frame.{Buffers, buffers, subframe_signal, frame_buffers, frame_signal, decode}
-use Rattle.decoder.specs.Call.{first_of, input_check, refusal, report, answer, number, block, output, handed, frame}
+use Rattle.decoder.specs.declared.Buffers.{Buffers}
+use Rattle.decoder.specs.Frame.{subframe_signal, frame_buffers, frame_signal, decode}
+use Rattle.decoder.specs.Call.{first_of, input_check, refusal, report, code, answer, number, block, output, handed, frame}
 
 -- ---- signal
 
--- the block and the samples of a frame from what the calls give: the parameters p before it and v of it, the buffers e₀ and s₀ as they
--- are opened, and e and s as the two subframes leave them
-module _ (t : List ℤ) (d : Decision) (b : List ℤ) {p : Params} {v : Decoded} {e₀ s₀ e s : List ℤ} (hp : p ≡ read_params b) (hv : v ≡ parameters t d p)
-    (he : e₀ ≡ part b past_place past_length ++ replicate frame_length (pos 0)) (hs : s₀ ≡ part b tail_place tail_length ++ replicate frame_length (pos 0))
-    (h : buffers e s ≡ subframe_signal t true v.second (subframe_signal t false v.first (buffers e₀ s₀))) where
+-- the block and the samples of a frame from what the calls give: the parameters p before it and v of it, and the buffers, w as they are opened
+-- and u as the two subframes leave them
+module _ (t : List ℤ) (d : Decision) (b : List ℤ) {p : Params} {v : Decoded} {w u : Buffers} (hp : p ≡ read_params b) (hv : v ≡ parameters t d p)
+    (hw : w ≡ frame_buffers (read_signal b)) (h : u ≡ subframe_signal t true v.second (subframe_signal t false v.first w)) where
   parameters_are : v ≡ parameters t d (read_params b)
   parameters_are = rw hp at hv
 
-  signal_is : buffers e s ≡ frame_signal t (parameters t d (read_params b)).first (parameters t d (read_params b)).second (read_signal b)
-  unfolding frame_signal frame_buffers read_signal
-  signal_is = rw (he, hs, parameters_are) at h
+  signal_is : u ≡ frame_signal t (parameters t d (read_params b)).first (parameters t d (read_params b)).second (read_signal b)
+  unfolding frame_signal
+  signal_is = rw (hw, parameters_are) at h
 
-  pub samples_are : drop tail_length s ≡ (decode t d (read b)).samples
+  pub samples_are : drop tail_length u.speech ≡ (decode t d (read b)).samples
   unfolding decode read
   samples_are = ap (λ (x : Buffers). drop tail_length x.speech) signal_is
 
@@ -45,12 +47,17 @@ module _ (t : List ℤ) (d : Decision) (b : List ℤ) {p : Params} {v : Decoded}
   unfolding decode read
   report_is q = q ∙ ap (report d) parameters_are
 
-  pub block_is : {block : List ℤ} → block ≡ write_params v.params ++ (drop frame_length e ++ drop frame_length s) → block ≡ write (decode t d (read b)).state
+  pub block_is : {block : List ℤ} → block ≡ write_params v.params ++ (drop frame_length u.exc ++ drop frame_length u.speech) → block ≡ write (decode t d (read b)).state
   unfolding decode read write
   block_is q =
       q ∙ (λ i. write_params (parameters_are i).params ++ (drop frame_length (signal_is i).exc ++ drop frame_length (signal_is i).speech))
 
 -- ---- the call
+
+-- the number of an answer is that of its numbered form
+pub code_numbered : (a : Result Report Refusal) → code_of a ≡ code (numbered a)
+code_numbered (Ok r) = refl
+code_numbered (Err e) = refl
 
 -- what a number that is 0 says of the tests that it was picked by
 when : (x : Bool) (m n : ℕ) → 0 < n → cond x m n ≡ 0 → (x ≡ true) × (m ≡ 0)
@@ -89,7 +96,7 @@ module _ (t b : List ℤ) (kind : ℕ) (payload : List ℕ) (out : List ℤ) whe
   frame_done e = rw (sym frame_number ∙ e) (refl, refl)
 
   pub frame_handed : number (frame t b kind payload out) ≡ 0
-      → handed (frame t b kind payload out) ≡ Done (report (decide kind payload) (parameters t (decide kind payload) (read_params b)))
+      → handed (frame t b kind payload out) ≡ Ok (report (decide kind payload) (parameters t (decide kind payload) (read_params b)))
   unfolding frame decode read
   frame_handed e = rw (sym frame_number ∙ e)
 
@@ -97,22 +104,23 @@ module _ (t b : List ℤ) (kind : ℕ) (payload : List ℕ) (out : List ℤ) whe
   unfolding frame
   frame_refused q = rw (ne_eqb _ 0 (λ e. q (frame_number ∙ e))) (refl, refl)
 
--- the answer from what the calls inside give: n is the number that refuses it, or 0
-module _ (t b : List ℤ) (kind : ℕ) (payload : List ℕ) (out : List ℤ) {n : ℕ} (h : n ≡ refusal t b kind payload (length out)) where
-  pub refused : (n ≡ 0 → ⊥) → answer (Refused n) b out ≡ frame t b kind payload out
-  unfolding frame
-  refused q = rw (← h, ne_eqb n 0 q)
+-- the answer from what the calls inside give
+pub refused : (t b : List ℤ) (kind : ℕ) (payload : List ℕ) (out : List ℤ) (e : Refusal) → number_of e ≡ refusal t b kind payload (length out)
+    → answer (Err (number_of e)) b out ≡ frame t b kind payload out
+unfolding frame
+refused t b kind payload out e h = rw (← h, nonzero e)
 
+module _ (t b : List ℤ) (kind : ℕ) (payload : List ℕ) (out : List ℤ) (h : 0 ≡ refusal t b kind payload (length out)) where
   -- a frame that is not refused has a whole state block and room for its samples
-  pub accepted : n ≡ 0 → (length b ≡ state_length) × (length out ≡ frame_length)
-  accepted e =
-      let c = checked t b kind payload (length out) (sym h ∙ e) in
+  pub accepted : (length b ≡ state_length) × (length out ≡ frame_length)
+  accepted =
+      let c = checked t b kind payload (length out) (sym h) in
       ((accepted_parts b (accepted_of_check b c.0)).0, room_is kind payload (length out) c.1)
 
-  pub done : n ≡ 0 → (speech : List ℤ) {d : Decision} {r : Report} {block samples b' : List ℤ} → d ≡ decide kind payload → block ≡ write (decode t d (read b)).state
+  pub done : (speech : List ℤ) {d : Decision} {r : Report} {block samples b' : List ℤ} → d ≡ decide kind payload → block ≡ write (decode t d (read b)).state
       → length speech ≡ speech_length → drop tail_length speech ≡ (decode t d (read b)).samples → samples ≡ part speech tail_length (length out)
-      → r ≡ report d (decode t d (read b)).decoded → b' ≡ cond (eqb (length b) state_length) block b → answer (Done r) b' samples ≡ frame t b kind payload out
+      → r ≡ report d (decode t d (read b)).decoded → b' ≡ cond (eqb (length b) state_length) block b → answer (Ok r) b' samples ≡ frame t b kind payload out
   unfolding frame
-  done e speech q hb hl hd hs hr eb =
-      let s = hs ∙ ap (part speech tail_length) (accepted e).1 ∙ last_part tail_length frame_length speech hl ∙ hd in
-      rw (← h, eq-eqb n 0 e, eb, eq-eqb (length b) state_length (accepted e).0, hb, s, hr, q)
+  done speech q hb hl hd hs hr eb =
+      let s = hs ∙ ap (part speech tail_length) accepted.1 ∙ last_part tail_length frame_length speech hl ∙ hd in
+      rw (← h, eb, eq-eqb (length b) state_length accepted.0, hb, s, hr, q)

@@ -1,151 +1,106 @@
 // The frame call (01, Frame; G.729 clause 4.1.6; lib.rs of the Rust, up to `reconstruct`): what is refused, and a frame's signal from its parameters.
 #![tactic(auto)]
 
-ghost use Rattle.std.specs.Prelude.{◌≡◌, true, false, drop};
-ghost use Rattle.block.specs.Places.{tail_length};
-ghost use Rattle.decoder.specs.Frame.{buffers, subframe_signal, decode};
-ghost use Rattle.decoder.specs.Call.{input_check, refusal, report, code, Answer, frame};
-ghost use Rattle.state.specs.State.{read, write};
+ghost use Rattle.std.specs.Prelude.{◌≡◌, true, false};
+ghost use Rattle.refusal.specs.Refusal.{code, numbered};
+ghost use Rattle.decoder.specs.Frame.{subframe_signal, frame_buffers};
+ghost use Rattle.decoder.specs.Call.{input_check, refusal, Answer, frame};
+ghost use Rattle.state.specs.State.{read_signal};
 
-use block::places::{EXC_LENGTH, FRAME_LENGTH, SPEECH_LENGTH, STATE_LENGTH, TAIL_LENGTH};
+use block::places::{EXC_LENGTH, FRAME_LENGTH, PAST_PLACE, SPEECH_LENGTH, TAIL_LENGTH, TAIL_PLACE};
 use parameters::{Decoded, Subframe};
-use plc::Decision;
+use refusal::Refusal;
 use rule::Report;
 
-// The answer of the frame call (01; change request 12): the delays that the subframes used, with their rules; a refusal returns its number and no other value.
+// A frame's 234 words of excitation and its 90 of speech: the words kept from the frame before, and 80 of its own.
 #[derive(Clone, Copy)]
-pub enum Framed {
-    Refused(u32),
-    Done(Report),
+pub struct Buffers {
+    pub exc: [i16; EXC_LENGTH],
+    pub speech: [i16; SPEECH_LENGTH],
 }
 
-// The state block that a frame leaves, its speech (the ten samples before it and its 80), and what it hands up.
-#[derive(Clone, Copy)]
-struct Output {
-    block: [i16; STATE_LENGTH],
-    speech: [i16; SPEECH_LENGTH],
-    report: Report,
-}
-
-// 01's number of an answer: 0 for success.
-pub fn code(f: Framed) -> u32
-    ensures { result ≡ code f }
-{
-    match f {
-        Framed::Refused(n) => n,
-        Framed::Done(_) => 0,
+impl Buffers {
+    // As a frame opens them: the words that a state block keeps, and zeros.
+    #[tactic(auto, unfolding(crate::specs::Frame::frame_buffers, state::specs::State::read_signal))]
+    fn opened(b: &[i16]) -> Buffers
+        ensures { result ≡ frame_buffers (read_signal b.now) }
+    {
+        Buffers {
+            exc: state::opened(b, PAST_PLACE),
+            speech: state::opened(b, TAIL_PLACE),
+        }
     }
-}
 
-// The signal of one subframe, written into the frame's two buffers: equations (40) and (75), then (77) with its second run.
-pub fn subframe_signal(
-    t: &[i16],
-    second: bool,
-    v: Subframe,
-    exc: &mut [i16; EXC_LENGTH],
-    speech: &mut [i16; SPEECH_LENGTH],
-)
-    ensures { buffers exc.new speech.new ≡ subframe_signal t.now second v (buffers exc.old speech.old) }
-{
-    let b30 = tables::b30(t);
-    let delay = v.delay;
-    let code = v.code;
-    let a = v.a;
-    adaptive::adaptive_vector(&b30, exc, second, delay.integer, delay.fraction);
-    synth::excitation(exc, second, &code, v.gp, v.gc);
-    synth::reconstruct(&a, exc, second, speech);
-}
+    // The signal of one subframe: equations (40) and (75), then (77) with its second run.
+    pub fn subframe_signal(&mut self, t: &[i16], second: bool, v: &Subframe)
+        ensures { self.new ≡ subframe_signal t.now second v.now self.old }
+    {
+        adaptive::adaptive_vector(
+            &tables::b30(t),
+            &mut self.exc,
+            second,
+            v.delay.integer,
+            v.delay.fraction,
+        );
+        synth::excitation(&mut self.exc, second, &v.code, v.gp, v.gc);
+        synth::reconstruct(&v.a, &mut self.exc, second, &mut self.speech);
+    }
 
-// The signal of the frame: its two subframes, one after the other.
-pub fn frame_signal(
-    t: &[i16],
-    v: Decoded,
-    exc: &mut [i16; EXC_LENGTH],
-    speech: &mut [i16; SPEECH_LENGTH],
-)
-    ensures { buffers exc.new speech.new ≡ subframe_signal t.now true v.second (subframe_signal t.now false v.first (buffers exc.old speech.old)) }
-{
-    let first = v.first;
-    subframe_signal(t, false, first, exc, speech);
-    let second = v.second;
-    subframe_signal(t, true, second, exc, speech);
+    // The signal of the frame: its two subframes, one after the other.
+    pub fn frame_signal(&mut self, t: &[i16], v: &Decoded)
+        ensures { self.new ≡ subframe_signal t.now true v.now.second (subframe_signal t.now false v.now.first self.old) }
+    {
+        self.subframe_signal(t, false, &v.first);
+        self.subframe_signal(t, true, &v.second);
+    }
 }
 
 // Refusals 5 to 7 (01): the kind, the payload's length, and the room for the samples.
-pub fn input_check(kind: u32, payload: &[u8], room: usize) -> u32
-    ensures { result ≡ input_check kind payload.now room }
+#[tactic(auto, unfolding(crate::specs::Call::input_check))]
+pub fn input_check(kind: u32, payload: &[u8], room: usize) -> Result<(), Refusal>
+    ensures { code result ≡ input_check kind payload.now room }
 {
     if !kind::known(kind) {
-        return 5;
+        return Err(Refusal::Kind);
     }
     if payload.len() != kind::payload_length(kind) {
-        return 6;
+        return Err(Refusal::PayloadLength);
     }
     if room != FRAME_LENGTH {
-        return 7;
+        return Err(Refusal::OutputLength);
     }
-    0
+    Ok(())
 }
 
-// The first refusal that applies (01): 1 to 4 of the two blocks, then 5 to 7; or 0.
-pub fn refusal(t: &[i16], b: &[i16], kind: u32, payload: &[u8], room: usize) -> u32
-    ensures { result ≡ refusal t.now b.now kind payload.now room }
+// The first refusal that applies (01): 1 to 4 of the two blocks, then 5 to 7.
+#[tactic(auto, unfolding(crate::specs::Call::refusal, crate::specs::Call::first_of))]
+pub fn check(t: &[i16], b: &[i16], kind: u32, payload: &[u8], room: usize) -> Result<(), Refusal>
+    ensures { code result ≡ refusal t.now b.now kind payload.now room }
 {
-    let table_code = tables::table_check(t);
-    if table_code != 0 {
-        return table_code;
-    }
-    let state_code = state::state_check(b);
-    if state_code != 0 {
-        return state_code;
-    }
+    tables::table_check(t)?;
+    state::state_check(b)?;
     input_check(kind, payload, room)
 }
 
-// What a frame hands up: the delays of its parameters, and how they were found.
-fn handed_up(d: Decision, v: Decoded) -> Report
-    ensures { result ≡ report d v }
+// The operation Frame (01; change request 12): the delays that the subframes used with their rules, with the state block and the 80 samples written;
+// or why it is refused, and both as they were.
+#[tactic(auto, using(crate::specs::Laws::refused))]
+pub fn frame(
+    t: &[i16],
+    b: &mut [i16],
+    kind: u32,
+    payload: &[u8],
+    out: &mut [i16],
+) -> Result<Report, Refusal>
+    ensures { Answer.answer (numbered result) b.new out.new ≡ frame t.now b.old kind payload.now out.old }
 {
-    let a = v.first;
-    let b = v.second;
-    let first = a.delay;
-    let second = b.delay;
-    rule::handed_up(d, first, second)
-}
-
-// A frame on values: the block that it leaves, its speech and what it hands up, from the block before it.
-fn decode(t: &[i16], d: Decision, b: &[i16]) -> Output
-    ensures block_value { result.block ≡ write (decode t.now d (read b.now)).state }
-    ensures speech_value { drop tail_length result.speech ≡ (decode t.now d (read b.now)).samples }
-    ensures report_value { result.report ≡ report d (decode t.now d (read b.now)).decoded }
-{
+    check(t, b, kind, payload, out.len())?;
+    let d = plc::decide(kind, payload);
     let v = parameters::parameters(t, d, state::read_params(b));
-    let mut exc = state::read_exc(b);
-    let mut speech = state::read_speech(b);
-    frame_signal(t, v, &mut exc, &mut speech);
-    let p = v.params;
-    let block = state::write_block(p, &exc, &speech);
-    let report = handed_up(d, v);
-    Output {
-        block,
-        speech,
-        report,
-    }
-}
-
-// The operation Frame (01): what the frame hands up, with the state block and the 80 samples written, or why it is refused, and both as they were.
-pub fn frame(t: &[i16], b: &mut [i16], kind: u32, payload: &[u8], out: &mut [i16]) -> Framed
-    ensures { Answer.answer result b.new out.new ≡ frame t.now b.old kind payload.now out.old }
-{
-    let number = refusal(t, b, kind, payload, out.len());
-    if number != 0 {
-        return Framed::Refused(number);
-    }
-    let f = decode(t, plc::decide(kind, payload), b);
-    let left = f.block;
-    let speech = f.speech;
+    let mut w = Buffers::opened(b);
+    w.frame_signal(t, &v);
+    let left = state::write_block(v.params, &w.exc, &w.speech);
     state::copy_block(b, left);
-    block::words(&speech, TAIL_LENGTH, out);
-    let report = f.report;
-    Framed::Done(report)
+    block::words(&w.speech, TAIL_LENGTH, out);
+    Ok(rule::handed_up(d, v.first.delay, v.second.delay))
 }

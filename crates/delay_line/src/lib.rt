@@ -1,7 +1,7 @@
 // The table that the program `delays` prints (change request 12): its lines, written into lent memory. Every line but a row begins with `#`, so that programs that draw take it as it is.
 #![tactic(auto)]
 
-ghost use Rattle.std.specs.Prelude.{◌≡◌, ◌+◌, ◌*◌, ◌≤◌, ◌<◌, min, pos, ◌+ℤ◌, ◌*ℤ◌, length};
+ghost use Rattle.std.specs.Prelude.{◌≡◌, ◌+◌, ◌*◌, ◌≤◌, pos, ◌+ℤ◌, ◌*ℤ◌, length};
 ghost use Rattle.print.specs.Print.{over};
 ghost use Rattle.text.specs.Text.{Put};
 ghost use Rattle.pitch.specs.Pitch.{nat};
@@ -10,13 +10,10 @@ ghost use Rattle.delay_line.specs.DelayLine.{thirds, sum, heading, row, five, by
 use count::Counts;
 use depth_table::{hundredths, two};
 use pitch::Delay;
-use print::{figure, put};
+use print::{Writer, figure, put};
 
 // The bytes of the longest line, or of the two of the heading.
 pub const ROOM: usize = 256;
-
-// The greatest number of 32 bits.
-const GREATEST: u64 = 4294967295;
 
 // ---- a delay in thirds of a sample
 
@@ -50,52 +47,47 @@ pub fn thirds(d: Delay) -> u32
 pub fn heading(out: &mut [u8; ROOM]) -> usize
     ensures { (result ≤ 256) × ((result ≡ length heading) × (out.new ≡ over heading out.old)) }
 {
-    put(
+    let mut w = Writer::new(out);
+    w.put(
         b"# delays in thirds of a sample, each with its rule: 1 coded in thirds, 2 coded whole, 3 coded relative to the first, 4 carried after bad parity, 5 carried in concealment\n# frame delay1 rule1 delay2 rule2\n",
-        0,
-        out,
-    )
+    );
+    w.written()
 }
 
 // `FRAME DELAY RULE DELAY RULE`: the delay and the rule of the first subframe, then of the second.
 pub fn row(frame: u32, d1: u32, r1: u32, d2: u32, r2: u32, out: &mut [u8; ROOM]) -> usize
     ensures { (result ≤ 256) × ((result ≡ length (row frame d1 r1 d2 r2)) × (out.new ≡ over (row frame d1 r1 d2 r2) out.old)) }
 {
-    let a = figure(b"", frame, 0, out);
-    let b = figure(b" ", d1, a, out);
-    let c = figure(b" ", r1, b, out);
-    let d = figure(b" ", d2, c, out);
-    let e = figure(b" ", r2, d, out);
-    put(b"\n", e, out)
-}
-
-fn wide(n: u32) -> u64
-    ensures { (result ≡ n) × (result < 4294967296) }
-{
-    n as u64
+    let mut w = Writer::new(out);
+    w.figure(b"", frame);
+    w.figure(b" ", d1);
+    w.figure(b" ", r1);
+    w.figure(b" ", d2);
+    w.figure(b" ", r2);
+    w.put(b"\n");
+    w.written()
 }
 
 // The sum of two numbers, at most the greatest of 32 bits.
+#[tactic(auto, unfolding(crate::specs::DelayLine::sum))]
 fn sum(a: u32, b: u32) -> u32
     ensures { result ≡ sum a b }
 {
-    let n = wide(a) + wide(b);
-    if n < GREATEST {
-        return n as u32;
-    }
-    4294967295
+    a.saturating_add(b)
 }
 
-// `# rules 1 to 5: A B C D E`: how many delays each rule has.
+// `# rules 1 to 5: A B C D E`: how many delays each rule has. Five numbers and no struct: the form's definition has the same five.
 fn five(a: u32, b: u32, c: u32, d: u32, e: u32, out: &mut [u8; ROOM]) -> usize
     ensures { (result ≤ 256) × ((result ≡ length (five a b c d e)) × (out.new ≡ over (five a b c d e) out.old)) }
 {
-    let i = figure(b"# rules 1 to 5: ", a, 0, out);
-    let j = figure(b" ", b, i, out);
-    let k = figure(b" ", c, j, out);
-    let l = figure(b" ", d, k, out);
-    let m = figure(b" ", e, l, out);
-    put(b"\n", m, out)
+    let mut w = Writer::new(out);
+    w.figure(b"# rules 1 to 5: ", a);
+    w.figure(b" ", b);
+    w.figure(b" ", c);
+    w.figure(b" ", d);
+    w.figure(b" ", e);
+    w.put(b"\n");
+    w.written()
 }
 
 // `# rules 1 to 5: A B C D E` of a call's counts.
@@ -129,7 +121,9 @@ pub fn share(c: Counts, out: &mut [u8; ROOM]) -> usize
 pub fn refused(code: u32, line: u32, out: &mut [u8; ROOM]) -> usize
     ensures { (result ≤ 256) × ((result ≡ length (refused code line)) × (out.new ≡ over (refused code line) out.old)) }
 {
-    let a = figure(b"# refused code ", code, 0, out);
-    let b = figure(b" line ", line, a, out);
-    put(b"\n", b, out)
+    let mut w = Writer::new(out);
+    w.figure(b"# refused code ", code);
+    w.figure(b" line ", line);
+    w.put(b"\n");
+    w.written()
 }

@@ -1,10 +1,7 @@
 -- One line of a call for a table of delays (change request 12): the operations Line and Count, the delays of the frame, in this order, and the row that is printed for it.
-use Rattle.std.specs.Prelude.{List, [], ℕ, ℤ, length, take, replicate}
+use Rattle.std.specs.Prelude.{List, [], ℕ, ℤ, length, take, replicate, Result, Ok, Err}
 use Rattle.count.specs.declared.Counts.{Counts}
-use Rattle.count.specs.declared.Counted.{Counted}
-use Rattle.count.specs.declared.Counted.TheVariants as Count
 use Rattle.count.specs.Count.{count}
-use Rattle.line.specs.declared.Read.TheVariants as Read
 use Rattle.line.specs.Line as Line
 use Rattle.kind.specs.Kind.{payload_length}
 use Rattle.plc.specs.Kinds.{decide}
@@ -14,7 +11,6 @@ use Rattle.print.specs.Print.{over}
 use Rattle.delay_line.specs.DelayLine.{thirds, row}
 use Rattle.line_step.specs.declared.Progress.{Progress}
 use Rattle.line_step.specs.Step.{one_more, with_code}
-use Rattle.frame_delays.specs.declared.Scanned.TheVariants as Scanned
 use Rattle.frame_delays.specs.Delays as Scan
 
 -- what is kept between lines: the carried delay; and 0 while the call goes on, else the number of the refusal that ended it, with the lines taken and the counts
@@ -44,21 +40,21 @@ done p next r carried = record { text = report_row (one_more p.lines) r; job = k
 
 -- what the scan answers, with the carried delay as it leaves it
 unfoldable pub scanned : Progress → Counts → Scan.Answer → Step
-scanned p next (Scan.answer (Scanned.Refused code) carried) = stop (kept carried p) code
-scanned p next (Scan.answer (Scanned.Done r) carried) = done p next r carried
+scanned p next (Scan.answer (Err code) carried) = stop (kept carried p) code
+scanned p next (Scan.answer (Ok r) carried) = done p next r carried
 
 -- Count's answer, for a frame of this kind and payload
-unfoldable pub counted : Job → ℕ → List ℕ → Counted → Step
-counted job kind payload (Count.Refused code) = stop job code
-counted job kind payload (Count.Done next) = scanned job.progress next (Scan.frame_delays job.carried kind payload)
+unfoldable pub counted : Job → ℕ → List ℕ → Result Counts ℕ → Step
+counted job kind payload (Err code) = stop job code
+counted job kind payload (Ok next) = scanned job.progress next (Scan.frame_delays job.carried kind payload)
 
 unfoldable pub frame_step : Job → ℕ → List ℕ → Step
 frame_step job kind payload = counted job kind payload (count kind (rules (decide kind payload)) job.progress.counts)
 
 -- Line's answer, with the payload at the front of ten bytes
 unfoldable pub taken : Job → Line.Answer → Step
-taken job (Line.answer (Read.Refused code) bytes) = stop job code
-taken job (Line.answer (Read.Frame kind) bytes) = frame_step job kind (take (payload_length kind) bytes)
+taken job (Line.answer (Err code) bytes) = stop job code
+taken job (Line.answer (Ok kind) bytes) = frame_step job kind (take (payload_length kind) bytes)
 
 -- one line, without its line feed
 unfoldable pub delay_step : Job → List ℕ → Step

@@ -7,10 +7,8 @@ ghost use Rattle.line_step.specs.Step.{one_more, with_code};
 ghost use Rattle.frame_delays.specs.Delays.{frame_delays};
 ghost use Rattle.delay_step.specs.Step.{kept, report_row, Answer, given, scanned, frame_step, delay_step};
 
-use count::{Counted, Counts};
+use count::Counts;
 use delay_line::ROOM;
-use frame_delays::Scanned;
-use line::Read;
 use line_step::Progress;
 use rule::Report;
 
@@ -44,8 +42,10 @@ fn report_row(frame: u32, r: Report, out: &mut [u8; ROOM]) -> usize
 fn stopped(p: Progress, code: u32) -> Stepped
     ensures { (result.job ≡ with_code p code) × (result.written ≡ 0) }
 {
-    let job = line_step::with_code(p, code);
-    Stepped { job, written: 0 }
+    Stepped {
+        job: p.with_code(code),
+        written: 0,
+    }
 }
 
 // A frame whose delays are known, with the counts that it leads to: its number is that of its line.
@@ -74,10 +74,9 @@ fn counted_step(
     ensures out_after { Answer.answer (kept carried.new result.job) result.written out.new ≡ given (scanned from next (frame_delays carried.old kind payload.now)) out.old }
     ensures written_bound { result.written ≤ 256 }
 {
-    let answer = frame_delays::frame_delays(carried, kind, payload);
-    match answer {
-        Scanned::Refused(code) => stopped(from, code),
-        Scanned::Done(r) => done(from, next, r, out),
+    match frame_delays::frame_delays(carried, kind, payload) {
+        Err(r) => stopped(from, r.number()),
+        Ok(r) => done(from, next, r, out),
     }
 }
 
@@ -93,11 +92,9 @@ fn frame_step(
     ensures out_after { Answer.answer (kept carried.new result.job) result.written out.new ≡ given (frame_step (kept carried.old from) kind payload.now) out.old }
     ensures written_bound { result.written ≤ 256 }
 {
-    let counts = from.counts;
-    let answer = count::count(kind, rule::frame_rules(kind, payload), counts);
-    match answer {
-        Counted::Refused(code) => stopped(from, code),
-        Counted::Done(next) => counted_step(carried, from, next, kind, payload, out),
+    match count::count(kind, rule::frame_rules(kind, payload), from.counts) {
+        Err(r) => stopped(from, r.number()),
+        Ok(next) => counted_step(carried, from, next, kind, payload, out),
     }
 }
 
@@ -107,12 +104,11 @@ pub fn delay_step(carried: &mut i16, from: Progress, text: &[u8], out: &mut [u8;
     ensures written_bound { result.written ≤ 256 }
 {
     let mut payload = [0u8; 10];
-    let answer = line::line(text, &mut payload);
-    match answer {
-        Read::Refused(code) => stopped(from, code),
-        Read::Frame(kind) => {
+    match line::line(text, &mut payload) {
+        Err(r) => stopped(from, r.number()),
+        Ok(kind) => {
             let n = kind::payload_length(kind);
-            frame_step(carried, from, kind, &payload[0..n], out)
+            frame_step(carried, from, kind, &payload[..n], out)
         }
     }
 }

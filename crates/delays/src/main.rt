@@ -27,7 +27,7 @@ fn run(rt: &HostRuntime, tables: &[u8], given: bool, name: &[u8]) {
         b"delays",
         b"reading a call from the terminal; end it with Ctrl-D (delays --help tells more)",
     );
-    if let Some(from) = from {
+    if let Ok(from) = from {
         delays_files::delays(rt, &from, name, initial(&t));
     }
 }
@@ -47,7 +47,7 @@ fn main(rt: HostRuntime) {
     }
     let mut tables = [0u8; 4096];
     let mut name = [0u8; 4096];
-    let n = files::argument(&rt, a.tables, b"tables.g729", &mut tables);
-    let m = files::argument(&rt, a.first, b"standard input", &mut name);
-    run(&rt, &tables[0..n], a.first != 0, &name[0..m]);
+    let tables = files::argument(&rt, a.tables, b"tables.g729", &mut tables);
+    let name = files::argument(&rt, a.first, b"standard input", &mut name);
+    run(&rt, tables, a.first.is_some(), name);
 }

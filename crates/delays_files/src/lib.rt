@@ -2,12 +2,11 @@
 // made on lent memory, where it is `delay_step` of crate delay_step.
 #![tactic(auto)]
 
-ghost use Rattle.std.specs.Prelude.{◌≡◌, ◌+◌, ◌≤◌, ◌<◌, length};
+ghost use Rattle.std.specs.Prelude.{◌≡◌, ◌+◌, ◌-◌, ◌≤◌, ◌<◌, ltb, length};
 ghost use Rattle.source.specs.Source.{Inside};
-ghost use Rattle.delays_files.specs.Held.{Held};
 
 use delay_line::ROOM;
-use files::Input;
+use files::{Input, Told};
 use line::LONGEST;
 use line_step::Progress;
 use source::Source;
@@ -18,240 +17,173 @@ const TURNS: u64 = 18446744073709551615;
 // The bytes of the output buffer: rows are written where it has no room for a further one, and before each read.
 const OUTPUT: usize = 65536;
 
-// What follows a turn: another one, or the end.
-const GO: u32 = 0;
+// What follows a turn.
+#[derive(Clone, Copy, PartialEq, Eq)]
+enum Next {
+    Go,
+    Done,
+    // A line is longer than the longest of a call; the last one has no line feed.
+    Long,
+    Cut,
+    // The call could not be read, or a row not written, and the reason was said.
+    Failed,
+}
 
-const DONE: u32 = 1;
+// The call that is read.
+#[derive(Clone, Copy)]
+struct Call<'a> {
+    file: &'a Input,
+    name: &'a [u8],
+}
 
-// A line is longer than the longest of a call; the last one has no line feed.
-const LONG: u32 = 2;
+// Rows that are not written yet.
+#[derive(Drop)]
+struct Rows {
+    bytes: [u8; OUTPUT],
+    used: usize,
+    ghost within: { used ≤ 65536 },
+}
 
-const CUT: u32 = 3;
+impl Rows {
+    // Whether a further row may have no room.
+    fn is_full(&self) -> bool
+        ensures { result ≡ ltb (65536 - self.now.used) 256 }
+    {
+        OUTPUT - self.used < ROOM
+    }
 
-// The call could not be read, or a row not written, and the reason was said.
-const FAILED: u32 = 4;
+    // A row behind the others.
+    fn push(&mut self, row: &[u8])
+        requires { self.old.used + length row.now ≤ 65536 }
+    {
+        self.used = print::put(row, self.used, &mut self.bytes);
+    }
 
-// Where a call is: its bytes at hand, how far it is, the delay that is carried on, the bytes of rows that are not written yet, and what follows.
+    // All are written, and none is left.
+    fn spill(&mut self, rt: &HostRuntime) -> Result<(), Told> {
+        let n = self.used;
+        self.used = 0;
+        let view: &[u8] = &self.bytes;
+        files::write(rt, &view[..n])
+    }
+}
+
+// Where a call is: its bytes at hand, how far it is, the delay that is carried on, and what follows.
 #[derive(Clone, Copy)]
 struct Place {
     source: Source,
     job: Progress,
     carried: i16,
-    rows: usize,
-    next: u32,
-}
-
-// What a line leads to: how far the call is, the delay that is carried on, and the bytes of rows with its own among them.
-#[derive(Clone, Copy)]
-struct Printed {
-    job: Progress,
-    carried: i16,
-    rows: usize,
-}
-
-// The rows at hand are written.
-fn spill(rt: &HostRuntime, p: Place, out: &[u8]) -> Place
-    requires { p.rows ≤ length out.now }
-    ensures { (result.source ≡ p.source) × (result.rows ≡ 0) }
-{
-    let source = p.source;
-    let job = p.job;
-    let n = p.rows;
-    let good = files::write(rt, &out[0..n]);
-    Place {
-        source,
-        job,
-        carried: p.carried,
-        rows: 0,
-        next: if good { p.next } else { FAILED },
-    }
+    next: Next,
 }
 
 // What follows where no whole line is at hand: a read, or the end. More bytes without a line feed than the longest line has are no line, whatever follows.
-fn following(left: usize, ended: bool) -> u32 {
+fn following(left: usize, ended: bool) -> Next {
     if LONGEST < left {
-        return LONG;
+        return Next::Long;
     }
     if !ended {
-        return GO;
+        return Next::Go;
     }
-    if left == 0 { DONE } else { CUT }
+    if left == 0 { Next::Done } else { Next::Cut }
 }
 
-// No whole line is at hand: a read, or the end.
-fn lacking(rt: &HostRuntime, from: &Input, name: &[u8], p: Place, input: &mut [u8]) -> Place
-    requires { Inside p.source (length input.old) }
-    ensures { Inside result.source (length input.old) × (result.rows ≡ p.rows) }
-{
-    let s = p.source;
-    let before = p.job;
-    let next = following(s.to - s.from, s.ended);
-    if next != GO {
-        let job = line_step::with_code(before, if next == DONE { 0 } else { 9 });
-        return Place {
-            source: s,
-            job,
-            carried: p.carried,
-            rows: p.rows,
-            next,
-        };
+impl Place {
+    // The rows at hand are written.
+    fn spill(&mut self, rt: &HostRuntime, rows: &mut Rows)
+        ensures { self.new.source ≡ self.old.source }
+    {
+        if rows.spill(rt).is_err() {
+            self.next = Next::Failed;
+        }
     }
-    let source = source::fill(rt, from, name, s, input);
-    Place {
-        source,
-        job: before,
-        carried: p.carried,
-        rows: p.rows,
-        next: if source.good { GO } else { FAILED },
+
+    // No whole line is at hand: a read, or the end.
+    fn lack(&mut self, rt: &HostRuntime, call: Call, input: &mut [u8])
+        requires { Inside self.old.source (length input.old) }
+        ensures { Inside self.new.source (length input.old) }
+    {
+        let s = self.source;
+        let next = following(s.to - s.from, s.ended);
+        self.next = next;
+        if next == Next::Go {
+            let s = source::fill(rt, call.file, call.name, s, input);
+            self.source = s;
+            if !s.good {
+                self.next = Next::Failed;
+            }
+        } else if next != Next::Done {
+            self.job.code = 9;
+        }
     }
-}
 
-// The first n bytes of a row behind the others, and the place behind them.
-fn put(row: &[u8; ROOM], n: usize, at: usize, out: &mut [u8]) -> usize
-    requires { (n ≤ 256) × (at + 256 ≤ length out.old) }
-    ensures { result ≤ length out.old }
-{
-    let view: &[u8] = row;
-    print::put(&view[0..n], at, out)
-}
-
-// A line, without its line feed: its row behind the others.
-fn print_row(from: Progress, carried: i16, line: &[u8], rows: usize, out: &mut [u8]) -> Printed
-    requires { rows + 256 ≤ length out.old }
-    ensures { result.rows ≤ length out.old }
-{
-    let mut next = carried;
-    let mut row = [0u8; ROOM];
-    let step = delay_step::delay_step(&mut next, from, line, &mut row);
-    let job = step.job;
-    let at = put(&row, step.written, rows, out);
-    Printed {
-        job,
-        carried: next,
-        rows: at,
+    // The line that ends before a place: its row behind the others.
+    fn take(&mut self, end: usize, input: &[u8], rows: &mut Rows)
+        requires inside { Inside self.old.source (length input.now) × ((self.old.source.from ≤ end) × (end < self.old.source.to)) }
+        requires rows_in_bounds { rows.old.used + 256 ≤ 65536 }
+        ensures { Inside self.new.source (length input.now) }
+    {
+        let from = self.source.from;
+        let mut row = [0u8; ROOM];
+        let step = delay_step::delay_step(&mut self.carried, self.job, &input[from..end], &mut row);
+        let view: &[u8] = &row;
+        rows.push(&view[0..step.written]);
+        self.source = source::used(self.source, end + 1 - from);
+        self.job = step.job;
+        if step.job.code != 0 {
+            self.next = Next::Done;
+        }
     }
-}
 
-// The line that ends before a place.
-fn take(p: Place, end: usize, input: &[u8], out: &mut [u8]) -> Place
-    requires inside { Inside p.source (length input.now) × ((p.source.from ≤ end) × (end < p.source.to)) }
-    requires rows_in_bounds { p.rows + 256 ≤ length out.old }
-    ensures { Held result (length input.now) (length out.old) }
-{
-    let s = p.source;
-    let from = s.from;
-    let before = p.job;
-    let printed = print_row(before, p.carried, &input[from..end], p.rows, out);
-    let left = source::used(s, end + 1 - from);
-    let job = printed.job;
-    Place {
-        source: left,
-        job,
-        carried: printed.carried,
-        rows: printed.rows,
-        next: if job.code == 0 { GO } else { DONE },
+    // The next line. The rows are written before a read, and where no further one has room.
+    fn turn(&mut self, rt: &HostRuntime, call: Call, input: &mut [u8], rows: &mut Rows)
+        requires { Inside self.old.source (length input.old) }
+        ensures { Inside self.new.source (length input.old) }
+    {
+        let s = self.source;
+        let end = octets::find(input, s.from, s.to, 10);
+        let whole = end != s.to;
+        if !whole && rows.used == 0 {
+            self.lack(rt, call, input);
+        } else if !whole || rows.is_full() {
+            self.spill(rt, rows);
+        } else {
+            self.take(end, input, rows);
+        }
     }
-}
-
-// No whole line is at hand: the rows are written before a read.
-fn pause(
-    rt: &HostRuntime,
-    from: &Input,
-    name: &[u8],
-    p: Place,
-    input: &mut [u8],
-    out: &[u8],
-) -> Place
-    requires { Held p (length input.old) (length out.now) }
-    ensures { Held result (length input.old) (length out.now) }
-{
-    if p.rows == 0 {
-        return lacking(rt, from, name, p, input);
-    }
-    spill(rt, p, out)
-}
-
-// The next line; the rows are written where no further one has room.
-fn turn(
-    rt: &HostRuntime,
-    from: &Input,
-    name: &[u8],
-    p: Place,
-    input: &mut [u8],
-    out: &mut [u8],
-) -> Place
-    requires { Held p (length input.old) (length out.old) }
-    ensures { Held result (length input.old) (length out.old) }
-{
-    let s = p.source;
-    let end = octets::find(input, s.from, s.to, 10);
-    if end == s.to {
-        return pause(rt, from, name, p, input, out);
-    }
-    if out.len() - p.rows < ROOM {
-        return spill(rt, p, out);
-    }
-    take(p, end, input, out)
-}
-
-// `turn` on the whole buffers.
-fn next(
-    rt: &HostRuntime,
-    from: &Input,
-    name: &[u8],
-    p: Place,
-    input: &mut [u8; source::ROOM],
-    out: &mut [u8; OUTPUT],
-) -> Place
-    requires { Held p 65536 65536 }
-    ensures { Held result 65536 65536 }
-{
-    turn(rt, from, name, p, input, out)
-}
-
-// How many turns may follow.
-fn rest(most: u64, more: bool) -> u64
-    requires { 0 < most }
-    ensures { result < most }
-{
-    if more { most - 1 } else { 0 }
 }
 
 // All lines of a call, whose first frame gets this delay. The rows of the last turns are not written yet.
-fn lines(rt: &HostRuntime, from: &Input, name: &[u8], carried: i16, out: &mut [u8; OUTPUT]) -> Place
-    ensures { result.rows ≤ 65536 }
-{
+fn lines(rt: &HostRuntime, call: Call, carried: i16, rows: &mut Rows) -> Place {
     let mut input = [0u8; source::ROOM];
-    let job = call::start();
     let mut p = Place {
         source: source::unread(),
-        job,
+        job: call::start(),
         carried,
-        rows: 0,
-        next: GO,
+        next: Next::Go,
     };
-    let mut most: u64 = TURNS;
-    while 0 < most {
-        let before = p;
-        p = next(rt, from, name, before, &mut input, out);
-        most = rest(most, p.next == GO);
+    for _ in 0..TURNS {
+        p.turn(rt, call, &mut input, rows);
+        if p.next != Next::Go {
+            break;
+        }
     }
     p
 }
 
-// The first n bytes of a line on standard output. False, with a message, where it can't be written.
-fn write(rt: &HostRuntime, line: &[u8; ROOM], n: usize) -> bool
+// The first n bytes of a line on standard output.
+fn write(rt: &HostRuntime, line: &[u8; ROOM], n: usize) -> Result<(), Told>
     requires { n ≤ 256 }
 {
     let view: &[u8] = line;
-    files::write(rt, &view[0..n])
+    files::write(rt, &view[..n])
 }
 
 // The line of a refusal.
 fn print_refused(rt: &HostRuntime, code: u32, line: u32) {
     let mut out = [0u8; ROOM];
     let n = delay_line::refused(code, line, &mut out);
-    write(rt, &out, n);
+    let _ = write(rt, &out, n);
 }
 
 // Why a line is refused, in words.
@@ -291,25 +223,16 @@ fn print_end(rt: &HostRuntime, job: Progress, cut: bool) {
     let counts = job.counts;
     let mut out = [0u8; ROOM];
     let n = delay_line::by_rule(counts, &mut out);
-    if write(rt, &out, n) {
+    if write(rt, &out, n).is_ok() {
         let m = delay_line::share(counts, &mut out);
-        write(rt, &out, m);
+        let _ = write(rt, &out, m);
     }
 }
 
 // The rows that are not written yet, and the end. Nothing where the call could not be read, or a row not written.
-fn finish(rt: &HostRuntime, p: Place, out: &[u8; OUTPUT])
-    requires { p.rows ≤ 65536 }
-{
-    if p.next == FAILED {
-        return;
-    }
-    let cut = p.next == CUT;
-    let view: &[u8] = out;
-    let last = spill(rt, p, view);
-    if last.next != FAILED {
-        let job = last.job;
-        print_end(rt, job, cut);
+fn finish(rt: &HostRuntime, p: Place, rows: &mut Rows) {
+    if p.next != Next::Failed && rows.spill(rt).is_ok() {
+        print_end(rt, p.job, p.next == Next::Cut);
     }
 }
 
@@ -317,10 +240,13 @@ fn finish(rt: &HostRuntime, p: Place, out: &[u8; OUTPUT])
 pub fn delays(rt: &HostRuntime, from: &Input, name: &[u8], carried: i16) {
     let mut line = [0u8; ROOM];
     let n = delay_line::heading(&mut line);
-    if write(rt, &line, n) {
-        let mut out = [0u8; OUTPUT];
-        let p = lines(rt, from, name, carried, &mut out);
-        finish(rt, p, &out);
+    if write(rt, &line, n).is_ok() {
+        let mut rows = Rows {
+            bytes: [0; OUTPUT],
+            used: 0,
+        };
+        let p = lines(rt, Call { file: from, name }, carried, &mut rows);
+        finish(rt, p, &mut rows);
     }
 }
 

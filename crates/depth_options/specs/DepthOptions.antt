@@ -1,14 +1,17 @@
 -- What the words of `depths` ask for beside those that `options` takes. The last of two equal options counts; the word behind an option is its value, whatever it is; the first value that can't be
 -- taken decides.
-use Rattle.std.specs.Prelude.{Bool, true, false, cond, not, ◌&&◌, ◌||◌, List, ℕ, ◌-◌, ◌*◌, ◌/◌, eqb, leb, length, take, get_or}
+use Rattle.std.specs.Prelude.{Bool, true, false, cond, ◌&&◌, ◌||◌, List, ℕ, ◌-◌, ◌*◌, ◌/◌, eqb, leb, length, take, get_or, Option, None, Some}
+use Rattle.std.specs.Option.{is_some}
 use Rattle.laws.specs.Bytes.{same}
 use Rattle.text.specs.Text.{ascii}
-use Rattle.arrival_line.specs.declared.Decimal.{Decimal}
-use Rattle.arrival_line.specs.declared.Decimal.TheVariants.{None, Value}
 use Rattle.arrival_line.specs.ArrivalLine.{number}
+use Rattle.depth_options.specs.declared.Setting.{Setting}
+use Rattle.depth_options.specs.declared.Setting.TheVariants.{Frames, Start, To, Step, Lost}
+use Rattle.depth_options.specs.declared.Lost.{Lost as Most}
+use Rattle.depth_options.specs.declared.Lost.TheVariants.{Count, Percent}
 use Rattle.depth_options.specs.declared.Wanted.{Wanted}
 
--- ---- the options; 0 is none
+-- ---- the numbers of the options; 0 is none
 
 abbrev pub frames : ℕ
 frames = 1
@@ -25,80 +28,73 @@ step = 4
 abbrev pub lost : ℕ
 lost = 5
 
-unfoldable pub name : List ℕ → ℕ
+abbrev pub code : Setting → ℕ
+code Frames = frames
+code Start = start
+code To = to
+code Step = step
+code Lost = lost
+
+unfoldable pub name : List ℕ → Option Setting
 name l =
-    cond (same l (ascii "--frames")) frames
-    (cond (same l (ascii "--start")) start
-    (cond (same l (ascii "--to")) to
-    (cond (same l (ascii "--step")) step
-    (cond (same l (ascii "--lost")) lost 0))))
+    cond (same l (ascii "--frames")) (Some Frames)
+    (cond (same l (ascii "--start")) (Some Start)
+    (cond (same l (ascii "--to")) (Some To)
+    (cond (same l (ascii "--step")) (Some Step)
+    (cond (same l (ascii "--lost")) (Some Lost) None))))
 
 -- ---- what is asked for
 
 -- without a word: depths from 0 to 200 ms in steps of 10, and the least at which at most 1% are lost
-unfoldable pub none : Wanted
-none = record { frames = 0; frames_given = false; start = 0; start_given = false; to = 200; step = 10; lost = 1; percent = true; awaits = 0; wrong = 0 }
+abbrev pub none : Wanted
+none = record { frames = None; start = None; to = 200; step = 10; lost = Percent 1; awaits = None; wrong = None }
 
 -- the option whose value is awaited, and the one whose value can't be taken
-unfoldable pub marked : Wanted → ℕ → ℕ → Wanted
+abbrev pub marked : Wanted → Option Setting → Option Setting → Wanted
 marked w awaits wrong =
-    record {
-      frames = w.frames;
-      frames_given = w.frames_given;
-      start = w.start;
-      start_given = w.start_given;
-      to = w.to;
-      step = w.step;
-      lost = w.lost;
-      percent = w.percent;
-      awaits = awaits;
-      wrong = wrong;
-    }
+    record { frames = w.frames; start = w.start; to = w.to; step = w.step; lost = w.lost; awaits = awaits; wrong = wrong }
 
--- the value v of the option that is awaited
-unfoldable pub put : Wanted → Bool → ℕ → Wanted
-put w percent v =
-    record {
-      frames = cond (eqb w.awaits frames) v w.frames;
-      frames_given = eqb w.awaits frames || w.frames_given;
-      start = cond (eqb w.awaits start) v w.start;
-      start_given = eqb w.awaits start || w.start_given;
-      to = cond (eqb w.awaits to) v w.to;
-      step = cond (eqb w.awaits step) v w.step;
-      lost = cond (eqb w.awaits lost) v w.lost;
-      percent = cond (eqb w.awaits lost) percent w.percent;
-      awaits = 0;
-      wrong = 0;
-    }
+-- the value v of an option
+abbrev pub put : Wanted → Setting → Bool → ℕ → Wanted
+put w Frames percent v = record { frames = Some v; start = w.start; to = w.to; step = w.step; lost = w.lost; awaits = None; wrong = None }
+put w Start percent v = record { frames = w.frames; start = Some v; to = w.to; step = w.step; lost = w.lost; awaits = None; wrong = None }
+put w To percent v = record { frames = w.frames; start = w.start; to = v; step = w.step; lost = w.lost; awaits = None; wrong = None }
+put w Step percent v = record { frames = w.frames; start = w.start; to = w.to; step = v; lost = w.lost; awaits = None; wrong = None }
+put w Lost percent v = record { frames = w.frames; start = w.start; to = w.to; step = w.step; lost = cond percent (Percent v) (Count v); awaits = None; wrong = None }
 
 -- ---- values
 
 -- a percentage ends in `%`
-unfoldable pub is_percent : ℕ → List ℕ → Bool
-is_percent option l = eqb option lost && eqb (get_or l (length l - 1) 0) 37
+unfoldable pub is_percent : Setting → List ℕ → Bool
+is_percent option l = eqb (code option) lost && eqb (get_or l (length l - 1) 0) 37
 
 -- at most 100 percent, at most 360,000 frames, and a step that is not 0
-unfoldable pub fits : ℕ → Bool → ℕ → Bool
-fits option percent v = cond percent (leb v 100) (cond (eqb option frames) (leb v 360000) (cond (eqb option step) (leb 1 v) true))
+abbrev pub fits : Setting → Bool → ℕ → Bool
+fits option percent v = cond percent (leb v 100) (cond (eqb (code option) frames) (leb v 360000) (cond (eqb (code option) step) (leb 1 v) true))
 
-unfoldable pub valued : Wanted → Bool → Decimal → Wanted
-valued w percent None = marked w 0 w.awaits
-valued w percent (Value v) = cond (fits w.awaits percent v) (put w percent v) (marked w 0 w.awaits)
+abbrev pub valued : Wanted → Setting → Bool → Option ℕ → Wanted
+valued w option percent None = marked w None (Some option)
+valued w option percent (Some v) = cond (fits option percent v) (put w option percent v) (marked w None (Some option))
 
 -- ---- word by word
 
 -- an option, or the value that is awaited
-unfoldable pub takes : Wanted → List ℕ → Bool
-takes w l = not (eqb w.awaits 0) || not (eqb (name l) 0)
+abbrev pub takes : Wanted → List ℕ → Bool
+takes w l = is_some w.awaits || is_some (name l)
+
+-- the option that a word names, or the value of the one that is awaited
+abbrev pub taken : Wanted → List ℕ → Option Setting → Wanted
+taken w l None = marked w (name l) None
+taken w l (Some option) = cond (is_percent option l) (valued w option true (number (take (length l - 1) l))) (valued w option false (number l))
 
 unfoldable pub next : Wanted → List ℕ → Wanted
-next w l =
-    cond (not (eqb w.wrong 0)) w
-    (cond (eqb w.awaits 0) (marked w (name l) 0)
-    (cond (is_percent w.awaits l) (valued w true (number (take (length l - 1) l)))
-    (valued w false (number l))))
+next w l = cond (is_some w.wrong) w (taken w l w.awaits)
 
 -- ---- how many of n frames may be lost
 
-unfoldable pub most : Wanted → ℕ → ℕ
-most w n = cond w.percent (n * w.lost / 100) w.lost
+abbrev pub most_of : Most → ℕ → ℕ
+most_of (Count m) n = m
+most_of (Percent m) n = n * m / 100
+
+abbrev pub most : Wanted → ℕ → ℕ
+most w n = most_of w.lost n

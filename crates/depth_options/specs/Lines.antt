@@ -1,29 +1,31 @@
 -- Whole lines of words that `depths` takes: what they ask for. Assumes nothing.
-use Rattle.std.specs.Prelude.{◌≡◌, refl, true, false, List, [], ◌∷◌, ℕ}
+use Rattle.std.specs.Prelude.{◌≡◌, refl, true, false, List, [], ◌∷◌, ℕ, Option, None, Some}
 use Rattle.laws.specs.Bytes.{same}
 use Rattle.text.specs.Text.{ascii}
 use Rattle.print.specs.Laws.{read as value}
 use Rattle.arrival_line.specs.ArrivalLine.{is_digit, all_digits, number}
 use Rattle.depth_options.specs.declared.Wanted.{Wanted}
-use Rattle.depth_options.specs.DepthOptions.{frames, start, to, step, lost, name, none, marked, put, is_percent, fits, valued, takes, next, most}
+use Rattle.depth_options.specs.declared.Setting.{Setting}
+use Rattle.depth_options.specs.declared.Lost.TheVariants.{Count, Percent}
+use Rattle.depth_options.specs.DepthOptions.{frames, start, to, step, lost, code, name, none, is_percent, takes, next, most}
 
 unfoldable words : Wanted → List (List ℕ) → Wanted
 words w [] = w
 words w (l ∷ m) = words (next w l) m
 
 unfoldable asked : List (List ℕ) → Wanted
-unfolding same value is_digit all_digits number name none marked put is_percent fits valued next words
+unfolding same value is_digit all_digits number name is_percent next words
 asked l = words none l
 
 -- ---- lines that are taken
 
 all : asked (ascii "--frames" ∷ ascii "6000" ∷ ascii "--start" ∷ ascii "40" ∷ ascii "--to" ∷ ascii "300" ∷ ascii "--step" ∷ ascii "5" ∷ ascii "--lost" ∷ ascii "30" ∷ [])
-    ≡ record { frames = 6000; frames_given = true; start = 40; start_given = true; to = 300; step = 5; lost = 30; percent = false; awaits = 0; wrong = 0 }
+    ≡ record { frames = Some 6000; start = Some 40; to = 300; step = 5; lost = Count 30; awaits = None; wrong = None }
 unfolding asked
 all = refl
 
 percent : asked (ascii "--lost" ∷ ascii "2%" ∷ [])
-    ≡ record { frames = 0; frames_given = false; start = 0; start_given = false; to = 200; step = 10; lost = 2; percent = true; awaits = 0; wrong = 0 }
+    ≡ record { frames = None; start = None; to = 200; step = 10; lost = Percent 2; awaits = None; wrong = None }
 unfolding asked
 percent = refl
 
@@ -34,8 +36,12 @@ again = refl
 
 -- ---- the option whose value is awaited, and the one whose value can't be taken
 
+abbrev mark : Option Setting → ℕ
+mark None = 0
+mark (Some option) = code option
+
 abbrev marks : Wanted → List ℕ
-marks w = w.awaits ∷ w.wrong ∷ []
+marks w = mark w.awaits ∷ mark w.wrong ∷ []
 
 no_value : marks (asked (ascii "--to" ∷ ascii "300" ∷ ascii "--step" ∷ [])) ≡ step ∷ 0 ∷ []
 unfolding asked
@@ -89,20 +95,19 @@ first_decides = refl
 -- ---- words that are left to `options`
 
 operand : takes none (ascii "arrivals") ≡ false
-unfolding takes name none same
+unfolding name same
 operand = refl
 
 help : takes none (ascii "--help") ≡ false
-unfolding takes name none same
+unfolding name same
 help = refl
 
 help_as_value : takes (asked (ascii "--to" ∷ [])) (ascii "--help") ≡ true
-unfolding asked takes
+unfolding asked
 help_as_value = refl
 
 -- ---- how many frames may be lost
 
 -- one more would exceed the percentage
 rounded_down : most none 199 ≡ 1
-unfolding most none
 rounded_down = refl

@@ -1,57 +1,63 @@
 -- Laws of the table of playout depths: the loops over the arrivals, what the frame count and the start are, and some lines. Assumes nothing.
-use Rattle.std.specs.Prelude.{◌≡◌, refl, List, [], ◌∷◌, ℕ, zero, suc, ◌+◌, ◌-◌, ◌*◌, ◌/◌, ◌≤◌, ◌<◌, min, max, length, get_or, drop}
-use Rattle.std.proofs.Common.{sym, ◌∙◌, arith, drop_of_length-le, length-drop, drop-cons, ne_eqb}
+use Rattle.std.specs.Prelude.{◌≡◌, refl, List, [], ◌∷◌, ◌++◌, ℕ, zero, suc, ◌+◌, ◌*◌, ◌/◌, ◌≤◌, ◌<◌, min, max, length, get_or, take}
+use Rattle.std.proofs.Common.{sym, ◌∙◌, add-one, arith, take-suc, take_all, ne_eqb}
 use Rattle.std.proofs.Math.Nat.{div-le_of_le-mul}
 use Rattle.text.specs.Text.{ascii}
 use Rattle.print.specs.Print.{figure, decimal, digits}
 use Rattle.depth_table.specs.Table.{frames, began, lowest, earliest, hundredths, two, percent, row}
 
--- ---- the loops go from the last arrival to the first: what is done is that of the arrivals from i on
+-- ---- the loops: what is done before a turn is that of the arrivals before it
 
-pub frames_none : (l : List ℕ) (i : ℕ) → length l ≤ i → 0 ≡ frames (drop i l)
+frames_append : (a b : List ℕ) → frames (a ++ b) ≡ max (frames a) (frames b)
 unfolding frames
-frames_none l i h = rw (drop_of_length-le l {i = i} h)
+frames_append [] b = omega arith
+frames_append (n ∷ a) b = omega (arith, frames_append a b)
 
-pub frames_more : (l : List ℕ) (i m : ℕ) → 0 < i → i ≤ length l → m ≡ frames (drop i l) → max (get_or l (i - 1) 0 + 1) m ≡ frames (drop (i - 1) l)
+pub frames_none : (l : List ℕ) → 0 ≡ frames (take 0 l)
 unfolding frames
-frames_more l i m h k e =
-    let j : i ≡ suc (i - 1) = omega arith in
-    let f : m ≡ frames (drop (suc (i - 1)) l) = rw j at e in
-    rw (drop-cons l (i - 1) 0 (omega arith), f)
+frames_none l = refl
 
-lowest_empty : (ns ts : List ℕ) → min (length ns) (length ts) ≡ 0 → 4294967295 ≡ lowest ns ts
+pub frames_more : (l : List ℕ) (i m : ℕ) → i < length l → m ≡ frames (take i l) → max m (get_or l i 0 + 1) ≡ frames (take (i + 1) l)
+unfolding frames
+frames_more l i m h e = let j : i + 1 ≡ suc i = omega arith in rw (j, take-suc l i 0 h, frames_append (take i l) (get_or l i 0 ∷ [])) (omega (arith, e))
+
+pub frames_end : (l : List ℕ) (i m : ℕ) → length l ≤ i → m ≡ frames (take i l) → m ≡ frames l
+frames_end l i m h e = rw (take_all i l h) at e
+
+pub lowest_none : (ns ts : List ℕ) → 4294967295 ≡ lowest (take 0 ns) (take 0 ts)
 unfolding lowest
-lowest_empty [] ts h = refl
-lowest_empty (n ∷ ns) [] h = refl
-lowest_empty (n ∷ ns) (t ∷ ts) h = absurd (omega arith)
+lowest_none ns ts = refl
 
-pub lowest_none : (ns ts : List ℕ) (i : ℕ) → min (length ns) (length ts) ≤ i → 4294967295 ≡ lowest (drop i ns) (drop i ts)
-lowest_none ns ts i h = lowest_empty (drop i ns) (drop i ts) (omega (arith, length-drop i ns, length-drop i ts))
+lowest_turn : (ns ts : List ℕ) (i : ℕ) → i < length ns → i < length ts → min (lowest (take i ns) (take i ts)) (began (get_or ns i 0) (get_or ts i 0)) ≡ lowest (take (suc i) ns) (take (suc i) ts)
+unfolding lowest began
+lowest_turn [] ts i h k = absurd (omega arith)
+lowest_turn (n ∷ ns) [] i h k = absurd (omega arith)
+lowest_turn (n ∷ ns) (t ∷ ts) zero h k = omega arith
+lowest_turn (n ∷ ns) (t ∷ ts) (suc i) h k = omega (arith, lowest_turn ns ts i (omega arith) (omega arith))
 
-pub lowest_more : (ns ts : List ℕ) (i m : ℕ) → 0 < i → i ≤ min (length ns) (length ts) → m ≡ lowest (drop i ns) (drop i ts)
-    → min (began (get_or ns (i - 1) 0) (get_or ts (i - 1) 0)) m ≡ lowest (drop (i - 1) ns) (drop (i - 1) ts)
-unfolding lowest
-lowest_more ns ts i m h k e =
-    let j : i ≡ suc (i - 1) = omega arith in
-    let f : m ≡ lowest (drop (suc (i - 1)) ns) (drop (suc (i - 1)) ts) = rw j at e in
-    rw (drop-cons ns (i - 1) 0 (omega arith), drop-cons ts (i - 1) 0 (omega arith), f)
+pub lowest_more : (ns ts : List ℕ) (i m : ℕ) → i < length ns → i < length ts → m ≡ lowest (take i ns) (take i ts)
+    → min m (began (get_or ns i 0) (get_or ts i 0)) ≡ lowest (take (i + 1) ns) (take (i + 1) ts)
+lowest_more ns ts i m h k e = rw (e, add-one) (lowest_turn ns ts i h k)
 
 earliest_lowest : (ns ts : List ℕ) (n : ℕ) → n ≡ min (length ns) (length ts) → (n ≡ 0 → ⊥) → earliest ns ts ≡ lowest ns ts
 unfolding earliest
 earliest_lowest ns ts n e h = rw (← e, ne_eqb n 0 h)
 
--- behind the last turn
-pub frames_end : (l : List ℕ) (i m : ℕ) → i ≡ 0 → m ≡ frames (drop i l) → m ≡ frames l
-frames_end l i m h e = rw h at e
-
 pub earliest_none : (ns ts : List ℕ) → min (length ns) (length ts) ≡ 0 → 0 ≡ earliest ns ts
 unfolding earliest
 earliest_none ns ts h = rw h
 
-pub earliest_end : (ns ts : List ℕ) (n i m : ℕ) → n ≡ min (length ns) (length ts) → (n ≡ 0 → ⊥) → i ≡ 0 → m ≡ lowest (drop i ns) (drop i ts) → m ≡ earliest ns ts
-earliest_end ns ts n i m k g h e =
-    let f : m ≡ lowest ns ts = rw h at e in
-    f ∙ sym (earliest_lowest ns ts n k g)
+lowest_all : (ns ts : List ℕ) (i : ℕ) → i ≡ min (length ns) (length ts) → lowest (take i ns) (take i ts) ≡ lowest ns ts
+unfolding lowest
+lowest_all [] ts zero h = refl
+lowest_all [] ts (suc i) h = refl
+lowest_all (n ∷ ns) [] zero h = refl
+lowest_all (n ∷ ns) [] (suc i) h = refl
+lowest_all (n ∷ ns) (t ∷ ts) zero h = absurd (omega arith)
+lowest_all (n ∷ ns) (t ∷ ts) (suc i) h = omega (arith, lowest_all ns ts i (omega arith))
+
+pub earliest_end : (ns ts : List ℕ) (i m : ℕ) → (min (length ns) (length ts) ≡ 0 → ⊥) → i ≡ min (length ns) (length ts) → m ≡ lowest (take i ns) (take i ts) → m ≡ earliest ns ts
+earliest_end ns ts i m g h e = e ∙ lowest_all ns ts i h ∙ sym (earliest_lowest ns ts (min (length ns) (length ts)) refl g)
 
 -- ---- what they are
 

@@ -1,7 +1,7 @@
 // The table that the program `depths` prints: its lines, written into lent memory, and what is worked out of the arrivals where no option gives it.
 #![tactic(auto)]
 
-ghost use Rattle.std.specs.Prelude.{◌≡◌, ◌+◌, ◌≤◌, ◌<◌, min, max, length};
+ghost use Rattle.std.specs.Prelude.{◌≡◌, ◌+◌, ◌≤◌, length};
 ghost use Rattle.print.specs.Print.{over};
 ghost use Rattle.text.specs.Text.{Put};
 ghost use Rattle.depth_table.specs.Table.{frames, began, earliest, hundredths, two, percent, heading, row, least, never};
@@ -11,38 +11,15 @@ use print::{figure, put};
 // The bytes of the longest line, or of the two of the heading.
 pub const ROOM: usize = 80;
 
-// The greatest number of 32 bits.
-const GREATEST: u32 = 4294967295;
-
 // ---- what is worked out of the arrivals
-
-fn wide(n: u32) -> u64
-    ensures { (result ≡ n) × (result < 4294967296) }
-{
-    n as u64
-}
-
-fn greater(a: u64, b: u64) -> u64
-    ensures { result ≡ max a b }
-{
-    if a < b { b } else { a }
-}
-
-fn lesser(a: u32, b: u32) -> u32
-    ensures { result ≡ min a b }
-{
-    if a < b { a } else { b }
-}
 
 // How many frames there are at least: one more than the greatest number, and none where nothing arrived.
 pub fn frames(numbers: &[u32]) -> u64
     ensures { result ≡ frames numbers.now }
 {
-    let mut most = 0;
-    let mut i = numbers.len();
-    while 0 < i {
-        i -= 1;
-        most = greater(wide(numbers[i]) + 1, most);
+    let mut most = 0u64;
+    for n in numbers {
+        most = most.max(u64::from(*n) + 1);
     }
     most
 }
@@ -51,33 +28,20 @@ pub fn frames(numbers: &[u32]) -> u64
 fn began(number: u32, time: u32) -> u32
     ensures { result ≡ began number time }
 {
-    let late = 10 * wide(number);
-    let at = wide(time);
-    if at < late {
-        return 0;
-    }
-    (at - late) as u32
-}
-
-fn count(a: usize, b: usize) -> usize
-    ensures { result ≡ min a b }
-{
-    if a < b { a } else { b }
+    u64::from(time).saturating_sub(10 * u64::from(number)) as u32
 }
 
 // The start at which depth 0 is just enough for the fastest frame; 0 where nothing arrived. Arrivals are as many as the shorter list has.
 pub fn earliest(numbers: &[u32], times: &[u32]) -> u32
     ensures { result ≡ earliest numbers.now times.now }
 {
-    let n = count(numbers.len(), times.len());
+    let n = numbers.len().min(times.len());
     if n == 0 {
         return 0;
     }
-    let mut at = GREATEST;
-    let mut i = n;
-    while 0 < i {
-        i -= 1;
-        at = lesser(began(numbers[i], times[i]), at);
+    let mut at = u32::MAX;
+    for i in 0..n {
+        at = at.min(began(numbers[i], times[i]));
     }
     at
 }
@@ -91,7 +55,7 @@ pub fn hundredths(lost: u32, frames: u32) -> u32
     if frames == 0 {
         return 0;
     }
-    (10000 * wide(lesser(lost, frames)) / wide(frames)) as u32
+    (10000 * u64::from(lost.min(frames)) / u64::from(frames)) as u32
 }
 
 // The last two digits of a number.

@@ -1,10 +1,8 @@
 -- Laws of the rows: the lost frames of an hour or less are a number of 32 bits, the last line by the least depth, and that the frames lost at the greatest depth never arrived. Assumes nothing.
-use Rattle.std.specs.Prelude.{◌≡◌, refl, Bool, true, false, ◌&&◌, ◌||◌, List, [], ◌∷◌, ℕ, ◌≤◌, eqb, leb}
+use Rattle.std.specs.Prelude.{◌≡◌, refl, Option, None, Some, Bool, true, false, ◌&&◌, ◌||◌, List, [], ◌∷◌, ℕ, ◌≤◌, eqb, leb}
 use Rattle.std.proofs.Math.Path.{ap}
 use Rattle.std.proofs.Common.{leb-true, le-leb, arith, Fits}
 use Rattle.std.specs.Int.{w32}
-use Rattle.playout.specs.declared.Found.{Found}
-use Rattle.playout.specs.declared.Found.TheVariants.{Never, Depth}
 use Rattle.playout.specs.Playout.{Arrival, Answer, answer, due, arrived, kinds, lost, enough, first, depth_of}
 use Rattle.playout.specs.Playout.{least as found}
 use Rattle.playout.specs.Laws.{length_kinds, lost_most}
@@ -15,10 +13,10 @@ pub lost_fits : (s d : ℕ) (l : List Arrival) (n : ℕ) → n ≤ 360000 → Fi
 lost_fits s d l n h = record { fits = omega (arith, lost_most (kinds s d l n), length_kinds s d l n) }
 
 -- the kinds that are left are those of a depth
-left : Answer Found → List ℕ
+left : Answer (Option ℕ) → List ℕ
 left (answer f ks) = ks
 
-module _ (s m : ℕ) (l : List Arrival) (n : ℕ) (f : Found) (ks : List ℕ) (e : answer f ks ≡ found s m l n) where
+module _ (s m : ℕ) (l : List Arrival) (n : ℕ) (f : Option ℕ) (ks : List ℕ) (e : answer f ks ≡ found s m l n) where
   left_kinds : ks ≡ kinds s (depth_of (first (enough s m l n) 0 4294967296)) l n
   unfolding found left
   left_kinds = ap left e
@@ -26,11 +24,11 @@ module _ (s m : ℕ) (l : List Arrival) (n : ℕ) (f : Found) (ks : List ℕ) (e
   pub left_fits : n ≤ 360000 → Fits w32 (lost ks)
   left_fits h = rw left_kinds (lost_fits s (depth_of (first (enough s m l n) 0 4294967296)) l n h)
 
-  pub last_never : f ≡ Never → last s m l n ≡ never (lost ks) m
+  pub last_never : f ≡ None → last s m l n ≡ never (lost ks) m
   unfolding last told
   last_never g = rw (← e, g)
 
-  pub last_depth : (d : ℕ) → f ≡ Depth d → last s m l n ≡ least d m
+  pub last_depth : (d : ℕ) → f ≡ Some d → last s m l n ≡ least d m
   unfolding last told
   last_depth d g = rw (← e, g)
 

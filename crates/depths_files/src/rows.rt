@@ -4,23 +4,24 @@ ghost use Rattle.print.specs.Print.{over};
 ghost use Rattle.playout.specs.Playout.{arrivals};
 ghost use Rattle.depths_files.specs.Rows.{frames, start, row_at, last};
 
-use crate::{MOST, TURNS, rest};
+use crate::{MOST, TURNS};
 use depth_options::Wanted;
 use depth_table::ROOM;
-use playout::Found;
+use files::Told;
 
-// A depth, and whether it is one of the table.
+// The arrivals of a call, and when its frame 0 is played at depth 0. The two lists stand beside each other since the operation `playout` takes them so, for C.
 #[derive(Clone, Copy)]
-struct Next {
-    depth: u32,
-    more: bool,
+struct Heard<'a> {
+    start: u32,
+    numbers: &'a [u32],
+    times: &'a [u32],
 }
 
 // A number of frames in 32 bits. No greater one is met: none is above 360,000 but for a wanted number of lost frames, which is given in 32 bits or is a part of them.
 fn narrow(n: usize) -> u32
     ensures { result ≡ min n 4294967295 }
 {
-    words::lesser(n, 4294967295) as u32
+    n.min(4294967295) as u32
 }
 
 // How many frames there are: as asked, else one more than the greatest number, which reading has kept below 360,000.
@@ -28,10 +29,11 @@ fn narrow(n: usize) -> u32
 fn frames(w: Wanted, numbers: &[u32]) -> usize
     ensures { (result ≡ frames w numbers.now) × (result ≤ 360000) }
 {
-    if w.frames_given {
-        return words::lesser(w.frames as usize, MOST);
-    }
-    words::lesser(depth_table::frames(numbers) as usize, MOST)
+    let n = match w.frames {
+        Some(n) => n as usize,
+        None => depth_table::frames(numbers) as usize,
+    };
+    n.min(MOST)
 }
 
 // When frame 0 is played at depth 0: as asked, else so that depth 0 is just enough for the fastest frame.
@@ -39,169 +41,121 @@ fn frames(w: Wanted, numbers: &[u32]) -> usize
 fn start(w: Wanted, numbers: &[u32], times: &[u32]) -> u32
     ensures { result ≡ start w numbers.now times.now }
 {
-    if w.start_given {
-        return w.start;
+    match w.start {
+        Some(start) => start,
+        None => depth_table::earliest(numbers, times),
     }
-    depth_table::earliest(numbers, times)
 }
 
 // The row of a depth at the front of `out`; its length.
 #[tactic(auto, using(crate::specs::Laws::lost_fits), unfolding(crate::specs::Rows::row_at))]
-fn put_row(
-    start: u32,
-    depth: u32,
-    numbers: &[u32],
-    times: &[u32],
-    kinds: &mut [u32],
-    out: &mut [u8; ROOM],
-) -> usize
+fn put_row(h: Heard<'_>, depth: u32, kinds: &mut [u32], out: &mut [u8; ROOM]) -> usize
     requires { length kinds.old ≤ 360000 }
-    ensures { (result ≤ 80) × ((result ≡ length (row_at start depth (arrivals numbers.now times.now) (length kinds.old))) × (out.new ≡ over (row_at start depth (arrivals numbers.now times.now) (length kinds.old)) out.old)) }
+    ensures { (result ≤ 80) × ((result ≡ length (row_at h.entry.start depth (arrivals h.entry.numbers.now h.entry.times.now) (length kinds.old))) × (out.new ≡ over (row_at h.entry.start depth (arrivals h.entry.numbers.now h.entry.times.now) (length kinds.old)) out.old)) }
 {
     let frames = kinds.len() as u32;
-    playout::kinds(start, depth, numbers, times, kinds);
+    playout::kinds(h.start, depth, h.numbers, h.times, kinds);
     let lost = playout::lost(kinds);
     depth_table::row(depth, lost as u32, frames, out)
 }
 
 // The last line at the front of `out`; its length.
-fn put_last(
-    start: u32,
-    most: u32,
-    numbers: &[u32],
-    times: &[u32],
-    kinds: &mut [u32],
-    out: &mut [u8; ROOM],
-) -> usize
+fn put_last(h: Heard<'_>, most: u32, kinds: &mut [u32], out: &mut [u8; ROOM]) -> usize
     requires { length kinds.old ≤ 360000 }
-    ensures { (result ≤ 80) × ((result ≡ length (last start most (arrivals numbers.now times.now) (length kinds.old))) × (out.new ≡ over (last start most (arrivals numbers.now times.now) (length kinds.old)) out.old)) }
+    ensures { (result ≤ 80) × ((result ≡ length (last h.entry.start most (arrivals h.entry.numbers.now h.entry.times.now) (length kinds.old))) × (out.new ≡ over (last h.entry.start most (arrivals h.entry.numbers.now h.entry.times.now) (length kinds.old)) out.old)) }
 {
-    let found = playout::least(start, most as usize, numbers, times, kinds);
+    let found = playout::least(h.start, most as usize, h.numbers, h.times, kinds);
     match found {
-        Found::Never => depth_table::never(playout::lost(kinds) as u32, most, out),
-        Found::Depth(d) => depth_table::least(d, most, out),
+        None => depth_table::never(playout::lost(kinds) as u32, most, out),
+        Some(d) => depth_table::least(d, most, out),
     }
 }
 
-// Prints the first n bytes of a line. False, with a message, where it can't be written.
-fn write(rt: &HostRuntime, line: &[u8; ROOM], n: usize) -> bool
-    requires { n ≤ 80 }
-{
-    let view: &[u8] = line;
-    files::write(rt, &view[0..n])
-}
-
-// Prints the heading of so many frames and arrivals.
-fn print_heading(rt: &HostRuntime, frames: usize, arrivals: usize, start: u32) -> bool {
+// Prints the heading of so many frames.
+fn print_heading(rt: &HostRuntime, h: Heard<'_>, frames: usize) -> Result<(), Told> {
     let mut out = [0u8; ROOM];
-    let n = depth_table::heading(narrow(frames), narrow(arrivals), start, &mut out);
-    write(rt, &out, n)
+    let n = depth_table::heading(narrow(frames), narrow(h.numbers.len()), h.start, &mut out);
+    files::write(rt, &out[..n])
 }
 
 // Prints the row of a depth.
-fn print_row(
-    rt: &HostRuntime,
-    start: u32,
-    depth: u32,
-    numbers: &[u32],
-    times: &[u32],
-    kinds: &mut [u32],
-) -> bool
+fn print_row(rt: &HostRuntime, h: Heard<'_>, depth: u32, kinds: &mut [u32]) -> Result<(), Told>
     requires { length kinds.old ≤ 360000 }
 {
     let mut out = [0u8; ROOM];
-    let n = put_row(start, depth, numbers, times, kinds, &mut out);
-    write(rt, &out, n)
+    let n = put_row(h, depth, kinds, &mut out);
+    files::write(rt, &out[..n])
 }
 
 // Prints the last line.
-fn print_last(
-    rt: &HostRuntime,
-    start: u32,
-    most: u32,
-    numbers: &[u32],
-    times: &[u32],
-    kinds: &mut [u32],
-)
+fn print_last(rt: &HostRuntime, h: Heard<'_>, most: u32, kinds: &mut [u32]) -> Result<(), Told>
     requires { length kinds.old ≤ 360000 }
 {
     let mut out = [0u8; ROOM];
-    let n = put_last(start, most, numbers, times, kinds, &mut out);
-    write(rt, &out, n);
+    let n = put_last(h, most, kinds, &mut out);
+    files::write(rt, &out[..n])
 }
 
 // The depth a step further, where the table has it. A step of 0 leads to none.
-fn following(depth: u32, to: u32, step: u32) -> Next {
-    if to < depth {
-        return Next { depth, more: false };
+fn following(depth: u32, to: u32, step: u32) -> Option<u32> {
+    let next = depth.checked_add(step)?;
+    if next == depth || to < next {
+        return None;
     }
-    if to - depth < step {
-        return Next { depth, more: false };
-    }
-    Next {
-        depth: depth + step,
-        more: step != 0,
-    }
+    Some(next)
 }
 
-// Prints all rows. False where one can't be written.
+// Prints all rows, from depth 0 on.
 fn print_rows(
     rt: &HostRuntime,
-    start: u32,
+    h: Heard<'_>,
     to: u32,
     step: u32,
-    numbers: &[u32],
-    times: &[u32],
     kinds: &mut [u32],
-) -> bool
+) -> Result<(), Told>
     requires { length kinds.old ≤ 360000 }
 {
-    let mut good = true;
     let mut depth = 0;
-    let mut most: u64 = TURNS;
-    while 0 < most {
-        good = print_row(rt, start, depth, numbers, times, kinds);
-        let next = following(depth, to, step);
-        depth = next.depth;
-        most = rest(most, next.more & good);
+    for _ in 0..TURNS {
+        print_row(rt, h, depth, kinds)?;
+        let Some(next) = following(depth, to, step) else {
+            break;
+        };
+        depth = next;
     }
-    good
+    Ok(())
 }
 
 // Prints the table, with a kind for each frame lent.
-fn print_table(rt: &HostRuntime, w: Wanted, numbers: &[u32], times: &[u32], kinds: &mut [u32])
+fn print_table(rt: &HostRuntime, w: Wanted, h: Heard<'_>, kinds: &mut [u32]) -> Result<(), Told>
     requires { length kinds.old ≤ 360000 }
 {
-    let at = start(w, numbers, times);
-    let most = narrow(depth_options::most(w, kinds.len() as u32));
-    if !print_heading(rt, kinds.len(), numbers.len(), at) {
-        return;
-    }
-    if print_rows(rt, at, w.to, w.step, numbers, times, kinds) {
-        print_last(rt, at, most, numbers, times, kinds);
-    }
+    let most = narrow(w.most(kinds.len() as u32));
+    print_heading(rt, h, kinds.len())?;
+    print_rows(rt, h, w.to, w.step, kinds)?;
+    print_last(rt, h, most, kinds)
 }
 
-// The table of so many arrivals, with the kinds that its frames have.
-fn print_part(rt: &HostRuntime, w: Wanted, numbers: &[u32], times: &[u32], kinds: &mut [u32])
+// The table with the kinds that its frames have.
+fn print_part(rt: &HostRuntime, w: Wanted, h: Heard<'_>, kinds: &mut [u32]) -> Result<(), Told>
     requires { length kinds.old ≡ 360000 }
 {
-    let n = frames(w, numbers);
-    print_table(rt, w, numbers, times, &mut kinds[0..n]);
+    let n = frames(w, h.numbers);
+    print_table(rt, w, h, &mut kinds[..n])
 }
 
-// Prints the table of the first n arrivals of the lists.
+// Prints the table of the arrivals of these lists.
 pub(crate) fn print(
     rt: &HostRuntime,
     w: Wanted,
-    n: usize,
-    numbers: &[u32; MOST],
-    times: &[u32; MOST],
-)
-    requires { n ≤ 360000 }
-{
+    numbers: &[u32],
+    times: &[u32],
+) -> Result<(), Told> {
+    let h = Heard {
+        start: start(w, numbers, times),
+        numbers,
+        times,
+    };
     let mut kinds = [0u32; MOST];
-    let all: &[u32] = numbers;
-    let when: &[u32] = times;
-    print_part(rt, w, &all[0..n], &when[0..n], &mut kinds);
+    print_part(rt, w, h, &mut kinds)
 }

@@ -2,7 +2,7 @@
 // decided is decided on slices (`options`, `call`).
 #![tactic(auto)]
 
-ghost use Rattle.std.specs.Prelude.{◌≡◌, ◌≤◌, ◌<◌, length, IfSome};
+ghost use Rattle.std.specs.Prelude.{◌≡◌, ◌<◌, length, IfOk};
 ghost use Rattle.std.specs.Io.{ReadsAtMost};
 ghost use Rattle.crc32.specs.Crc32.{crc32};
 ghost use Rattle.call.specs.Chunk.{Begun, begin};
@@ -11,10 +11,10 @@ mod path;
 mod reading;
 mod writing;
 
-use options::Asked;
-pub use path::{Seen, is_link, look, text};
+use options::{Asked, What};
+pub use path::{Known, Seen, is_link, look, text};
 use print::FORM_ROOM;
-pub use reading::{Input, open, opened, read, read_full};
+pub use reading::{Input, open, opened};
 use std::env::FillError;
 use std::fmt::InlineText;
 use std::io;
@@ -36,12 +36,9 @@ pub struct Checked {
     pub sum: u32,
 }
 
-// How many bytes were read; not good where that failed, and the reason was said.
-#[derive(Drop)]
-struct Loaded {
-    length: usize,
-    good: bool,
-}
+// A failure whose reason is on standard error.
+#[derive(Clone, Copy, Debug, PartialEq, Eq)]
+pub struct Told;
 
 // Bytes on standard error.
 pub fn tell(rt: &HostRuntime, text: &[u8]) {
@@ -75,32 +72,36 @@ pub fn say_line(rt: &HostRuntime, program: &[u8], line: u32, what: &[u8]) {
 pub fn fail(rt: &HostRuntime, what: &[u8], why: io::Error) {
     let shown = InlineText::<256>::of(why);
     let all = shown.as_str();
-    let words = match all.split_once(" (os error ") {
-        Some((words, _)) => words,
-        None => all,
-    };
+    let words = all.split_once(" (os error ").map_or(all, |parts| parts.0);
     say(rt, what, words.as_bytes());
 }
 
-// Writes to standard output. False, with a message, where not all could be written.
-pub fn write(rt: &HostRuntime, text: &[u8]) -> bool {
-    match rt.write_all(text) {
-        Ok(()) => true,
+// What the system answers, with a message where it fails.
+pub fn or_tell<T>(rt: &HostRuntime, what: &[u8], answer: io::Result<T>) -> Result<T, Told>
+    ensures { IfOk result (λ x. answer ≡ Ok x) }
+{
+    match answer {
+        Ok(x) => Ok(x),
         Err(e) => {
-            fail(rt, b"standard output", e);
-            false
+            fail(rt, what, e);
+            Err(Told)
         }
     }
 }
 
-// What a program reads: the file of this name, or standard input, which may be a terminal: then it is said what is awaited. None, with a message, where the file can't be opened.
+// Writes to standard output, with a message where not all could be written.
+pub fn write(rt: &HostRuntime, text: &[u8]) -> Result<(), Told> {
+    or_tell(rt, b"standard output", rt.write_all(text))
+}
+
+// What a program reads: the file of this name, or standard input, which may be a terminal: then it is said what is awaited. With a message where the file can't be opened.
 pub fn input(
     rt: &HostRuntime,
     given: bool,
     name: &[u8],
     program: &[u8],
     awaited: &[u8],
-) -> Option<Input> {
+) -> Result<Input, Told> {
     if given {
         return opened(rt, name);
     }
@@ -108,139 +109,122 @@ pub fn input(
     if stdin.is_terminal() {
         say(rt, program, awaited);
     }
-    Some(Input::Standard(stdin))
+    Ok(Input::Standard(stdin))
 }
 
-// The first n bytes of a form, on standard output.
-pub fn print(rt: &HostRuntime, form: &[u8; FORM_ROOM], n: usize) {
-    let view = &form[..];
-    if n <= view.len() {
-        write(rt, &view[0..n]);
-    }
+// A form on standard output.
+pub fn print(rt: &HostRuntime, form: &[u8]) {
+    let _ = write(rt, form);
+}
+
+// The form of a refusal on standard output.
+pub fn print_refused(rt: &HostRuntime, code: u32, line: u32) {
+    let mut form = [0u8; FORM_ROOM];
+    let n = print::refused(code, line, &mut form);
+    print(rt, &form[..n]);
 }
 
 // A refusal before the first line: its form on standard output, and why on standard error.
-pub fn refuse(rt: &HostRuntime, code: u32, name: &[u8], what: &[u8]) {
-    let mut form = [0u8; FORM_ROOM];
-    let n = print::refused(code, 0, &mut form);
-    print(rt, &form, n);
+pub fn refuse(rt: &HostRuntime, code: u32, name: &[u8], what: &[u8]) -> Told {
+    print_refused(rt, code, 0);
     say(rt, name, what);
+    Told
 }
 
-// Takes the number of a standard descriptor that is closed. What takes it can't be read or written. False, with a message, where nothing can be opened.
-fn fill(rt: &HostRuntime) -> bool {
-    match open(rt, b"/") {
-        Ok(file) => {
-            if file.as_raw_fd() <= STDERR {
-                file.into_raw_fd();
-            }
-            true
-        }
-        Err(e) => {
-            fail(rt, b"/", e);
-            false
-        }
+// Takes the number of a standard descriptor that is closed. What takes it can't be read or written. With a message where nothing can be opened.
+fn fill(rt: &HostRuntime) -> Result<(), Told> {
+    let file = or_tell(rt, b"/", open(rt, b"/"))?;
+    if file.as_raw_fd() <= STDERR {
+        file.into_raw_fd();
     }
+    Ok(())
 }
 
 // All three standard descriptors are taken, so that no file that is opened for writing gets the number of one and has messages written over its bytes.
-pub fn standard_open(rt: &HostRuntime) -> bool {
-    fill(rt) && fill(rt) && fill(rt)
+pub fn standard_open(rt: &HostRuntime) -> Result<(), Told> {
+    for _ in 0..3 {
+        fill(rt)?;
+    }
+    Ok(())
 }
 
-// Argument i at the front of `word`: how many bytes it has, 0 where it does not fit; none where there is no such argument.
-pub fn arg(rt: &HostRuntime, i: usize, word: &mut [u8]) -> Option<usize>
-    ensures { IfSome result (λ n. n ≤ length word.new) }
-{
-    match rt.arg(i, word) {
-        Ok(n) => Some(n),
-        Err(FillError::TooLong) => Some(0),
+// Argument i, in the room that is lent: empty where it does not fit; none where there is no such argument.
+pub fn arg<'a>(rt: &HostRuntime, i: usize, room: &'a mut [u8]) -> Option<&'a [u8]> {
+    match rt.arg(i, room) {
+        Ok(n) => Some(&room[..n]),
+        Err(FillError::TooLong) => Some(b""),
         Err(FillError::NotPresent) => None,
     }
 }
 
 // What the command line asks for, of a program that takes `least` to `most` operands. A word that is too long for the buffer reads as empty, which `options` refuses.
 pub fn asked(rt: &HostRuntime, least: usize, most: usize) -> Asked {
-    let mut a = options::none();
+    let mut a = Asked::none();
     for i in 1..usize::MAX {
-        let mut word = [0u8; 4096];
-        match arg(rt, i, &mut word) {
-            Some(n) => a = options::next(a, most, i, &word[0..n]),
-            None => break,
-        }
+        let mut room = [0u8; 4096];
+        let Some(word) = arg(rt, i, &mut room) else {
+            break;
+        };
+        a = a.next(most, i, word);
     }
-    options::ended(a, least)
+    a.ended(least)
 }
 
-// A text at the front of `room`; how many bytes it has, 0 and nothing written where it does not fit.
-fn put(text: &[u8], room: &mut [u8]) -> usize
-    ensures { result ≤ length room.new }
-{
-    if text.len() <= room.len() {
-        return octets::copy(text, room);
+// The argument of this number, in the room that is lent, empty where it does not fit; the default where none is given.
+pub fn argument<'a>(
+    rt: &HostRuntime,
+    i: Option<usize>,
+    default: &'a [u8],
+    room: &'a mut [u8],
+) -> &'a [u8] {
+    match i {
+        Some(i) => arg(rt, i, room).unwrap_or(b""),
+        None => default,
     }
-    0
-}
-
-// Argument i at the front of `name`, or the default where i is 0; how many bytes it has, 0 where there is no such argument or it does not fit.
-pub fn argument(rt: &HostRuntime, i: usize, default: &[u8], name: &mut [u8]) -> usize
-    ensures { result ≤ length name.new }
-{
-    if i != 0 {
-        return arg(rt, i, name).unwrap_or(0);
-    }
-    put(default, name)
 }
 
 // Why a line can't be taken, in words.
 fn why(rt: &HostRuntime, program: &[u8], a: Asked) {
-    if a.what == options::FILE {
-        say(rt, program, b"--tables needs a file");
-    } else if a.what == options::TWICE {
-        say(rt, program, b"--tables is given twice");
-    } else if a.what == options::UNKNOWN {
-        let mut word = [0u8; 4096];
-        let n = argument(rt, a.word, b"", &mut word);
-        tell(rt, program);
-        tell(rt, b": ");
-        say(rt, &word[0..n], b"no such option");
-    } else if a.what == options::MANY {
-        say(rt, program, b"too many arguments");
-    } else if a.what == options::FEW {
-        say(rt, program, b"too few arguments");
-    } else {
-        say(
+    match a.what {
+        What::File => say(rt, program, b"--tables needs a file"),
+        What::Twice => say(rt, program, b"--tables is given twice"),
+        What::Unknown => {
+            let mut room = [0u8; 4096];
+            let word = argument(rt, a.word, b"", &mut room);
+            tell(rt, program);
+            tell(rt, b": ");
+            say(rt, word, b"no such option");
+        }
+        What::Many => say(rt, program, b"too many arguments"),
+        What::Few => say(rt, program, b"too few arguments"),
+        _ => say(
             rt,
             program,
             b"an argument is empty or has more than 4,095 bytes",
-        );
+        ),
     }
 }
 
 // Answers a line that asks for no run: help (the usage and more) or the version on standard output, or why it can't be taken and the usage on standard error. False, and
 // nothing done, where it asks for a run.
 pub fn answered(rt: &HostRuntime, a: Asked, program: &[u8], usage: &[u8], more: &[u8]) -> bool {
-    if a.what == options::RUN {
-        return false;
-    }
-    if a.what == options::HELP {
-        if write(rt, usage) {
-            write(rt, more);
+    match a.what {
+        What::Run => return false,
+        What::Help => {
+            let _ = write(rt, usage).and_then(|()| write(rt, more));
         }
-        return true;
+        What::Version => print(rt, b"holdamek 0.10.0\n"),
+        _ => {
+            why(rt, program, a);
+            tell(rt, usage);
+        }
     }
-    if a.what == options::VERSION {
-        write(rt, b"holdamek 0.10.0\n");
-        return true;
-    }
-    why(rt, program, a);
-    tell(rt, usage);
     true
 }
 
 // Whether tables are asked for, of a program that has none: that is refused as any other unknown option.
 pub fn no_tables(rt: &HostRuntime, a: Asked, program: &[u8], usage: &[u8]) -> bool {
-    if (a.tables == 0) & (a.what != options::FILE) & (a.what != options::TWICE) {
+    if a.tables.is_none() && !matches!(a.what, What::File | What::Twice) {
         return false;
     }
     tell(rt, program);
@@ -250,39 +234,23 @@ pub fn no_tables(rt: &HostRuntime, a: Asked, program: &[u8], usage: &[u8]) -> bo
     true
 }
 
-// Nothing was read, for the reason that is said.
-fn failed(rt: &HostRuntime, name: &[u8], why: io::Error) -> Loaded
-    ensures { result.length ≡ 0 }
-{
-    fail(rt, name, why);
-    Loaded {
-        length: 0,
-        good: false,
-    }
-}
-
-// The bytes of an open file at the front of `file`, which has room for more than the tables. A read behind them tells an error from the end.
-fn load(rt: &HostRuntime, from: &Input, name: &[u8], file: &mut [u8]) -> Loaded
+// The bytes of an open file at the front of `file`, which has room for more than the tables; how many they are. A read behind them tells an error from the end.
+fn load(from: &Input, file: &mut [u8]) -> io::Result<usize>
     requires { 3760 < length file.old }
-    ensures { result.length ≤ length file.new }
+    ensures { ReadsAtMost result file.new }
 {
-    let length = read_full(from, file);
+    let length = from.read_full(file);
     let mut rest = [0u8; 1];
-    match read(from, &mut rest) {
-        Ok(_) => Loaded { length, good: true },
-        Err(e) => failed(rt, name, e),
-    }
+    from.read(&mut rest)?;
+    Ok(length)
 }
 
 // The same of the file of this name.
-fn load_file(rt: &HostRuntime, name: &[u8], file: &mut [u8]) -> Loaded
+fn load_file(rt: &HostRuntime, name: &[u8], file: &mut [u8]) -> io::Result<usize>
     requires { 3760 < length file.old }
-    ensures { result.length ≤ length file.new }
+    ensures { ReadsAtMost result file.new }
 {
-    match open(rt, name) {
-        Ok(from) => load(rt, &Input::Named(from), name, file),
-        Err(e) => failed(rt, name, e),
-    }
+    load(&Input::Named(open(rt, name)?), file)
 }
 
 // The tables and the fresh state of a table file's bytes, and their CRC-32. A refusal leaves both blocks as they were.
@@ -290,7 +258,7 @@ fn begin(bytes: &[u8], t: &mut [i16; 1880], b: &mut [i16; 234]) -> Checked
     ensures b_after { Begun.begun result.code t.new b.new ≡ begin bytes.now t.old b.old }
     ensures sum_value { result.sum ≡ crc32 bytes.now }
 {
-    let code = call::begin(bytes, t, b);
+    let code = refusal::code(call::begin(bytes, t, b));
     let sum = crc32::crc32(bytes);
     Checked { code, sum }
 }
@@ -298,10 +266,10 @@ fn begin(bytes: &[u8], t: &mut [i16; 1880], b: &mut [i16; 234]) -> Checked
 // Reads the tables, and makes the fresh state. Where they are refused the reason is on standard error, and the form is the caller's to print.
 pub fn tables(rt: &HostRuntime, name: &[u8], t: &mut [i16; 1880], b: &mut [i16; 234]) -> Checked {
     let mut file = [0u8; MORE];
-    let loaded = load_file(rt, name, &mut file);
-    let n = loaded.length;
-    let checked = begin(&file[0..n], t, b);
-    if checked.code == 1 && loaded.good {
+    let loaded = or_tell(rt, name, load_file(rt, name, &mut file));
+    let n = loaded.unwrap_or(0);
+    let checked = begin(&file[..n], t, b);
+    if checked.code == 1 && loaded.is_ok() {
         say(rt, name, b"not 3,760 bytes of tables");
     }
     if checked.code == 2 {

@@ -4,67 +4,49 @@ use std::io::{Error, ErrorKind};
 use std::os::unix::fs::MetadataExt;
 use std::{fs, io};
 
-// What is known of a file, links followed: whether it is there, whether it is a regular file, its device and inode, and its length; where it isn't there, why.
+// What is known of a file that is there, links followed: whether it is a regular file, its device and inode, and its length.
 #[derive(Clone, Copy)]
-pub struct Seen {
-    pub there: bool,
+pub struct Known {
     pub regular: bool,
     pub device: u64,
     pub inode: u64,
     pub length: u64,
-    pub why: Option<Error>,
 }
+
+impl From<Metadata> for Known {
+    fn from(found: Metadata) -> Known {
+        Known {
+            regular: found.is_file(),
+            device: found.dev(),
+            inode: found.ino(),
+            length: found.len(),
+        }
+    }
+}
+
+// A file that was looked at; where it isn't there, why.
+pub type Seen = io::Result<Known>;
 
 // A name as text, which it has to be: the library takes no other.
 pub fn text(name: &[u8]) -> io::Result<&str> {
-    match std::str::from_utf8(name) {
-        Ok(text) => Ok(text),
-        Err(_) => Err(Error::new(ErrorKind::InvalidInput, "the name is not UTF-8")),
-    }
-}
-
-fn found(known: Metadata) -> Seen {
-    Seen {
-        there: true,
-        regular: known.is_file(),
-        device: known.dev(),
-        inode: known.ino(),
-        length: known.len(),
-        why: None,
-    }
-}
-
-fn missing(why: Error) -> Seen {
-    Seen {
-        there: false,
-        regular: false,
-        device: 0,
-        inode: 0,
-        length: 0,
-        why: Some(why),
-    }
-}
-
-fn ask(rt: &HostRuntime, path: &[u8]) -> io::Result<Metadata> {
-    fs::metadata(rt, text(path)?)
+    std::str::from_utf8(name).map_err(|_| Error::new(
+        ErrorKind::InvalidInput,
+        "the name is not UTF-8",
+    ))
 }
 
 // What is known of the file of this name.
 pub fn look(rt: &HostRuntime, path: &[u8]) -> Seen {
-    match ask(rt, path) {
-        Ok(known) => found(known),
-        Err(e) => missing(e),
-    }
+    let found = fs::metadata(rt, text(path)?)?;
+    Ok(Known::from(found))
 }
 
-fn ask_link(rt: &HostRuntime, path: &[u8]) -> io::Result<Metadata> {
+// The same of the name itself, and not of what a link leads to.
+fn look_link(rt: &HostRuntime, path: &[u8]) -> io::Result<Metadata> {
     fs::symlink_metadata(rt, text(path)?)
 }
 
 // Whether the name is that of a symbolic link.
 pub fn is_link(rt: &HostRuntime, path: &[u8]) -> bool {
-    match ask_link(rt, path) {
-        Ok(known) => known.is_symlink(),
-        Err(_) => false,
-    }
+    look_link(rt, path).is_ok_and(|known| known.is_symlink())
 }

@@ -43,16 +43,12 @@ fn position(index: u16, k: u32) -> usize
     ensures { result ≡ position index k }
 {
     let i = index as usize;
-    if k == 0 {
-        return 5 * (i % 8);
+    match k {
+        0 => 5 * (i % 8),
+        1 => 5 * (i / 8 % 8) + 1,
+        2 => 5 * (i / 64 % 8) + 2,
+        _ => 5 * (i / 1024 % 8) + 3 + i / 512 % 2,
     }
-    if k == 1 {
-        return 5 * (i / 8 % 8) + 1;
-    }
-    if k == 2 {
-        return 5 * (i / 64 % 8) + 2;
-    }
-    5 * (i / 1024 % 8) + 3 + i / 512 % 2
 }
 
 // The amplitude of pulse k (equations (45) and (61)).
@@ -72,10 +68,8 @@ pub fn codevector(positive: i16, index: u16, sign: u16) -> [i16; 40]
     ensures { result ≡ codevector positive index sign }
 {
     let mut code = [0i16; 40];
-    let mut k = 0;
-    while k < 4 {
+    for k in 0..4 {
         code[position(index, k)] = pulse(positive, sign, k);
-        k += 1;
     }
     code
 }
@@ -86,11 +80,8 @@ fn add_delayed(code: [i16; 40], t0: usize, b: i16) -> [i16; 40]
     ensures { result ≡ run (λ n c. add (at c (t0 + n)) (mult (at c n) b)) t0 (40 - t0) code }
 {
     let mut out = code;
-    let mut n = 0;
-    let count = 40 - t0;
-    while n < count {
+    for n in 0..40 - t0 {
         out[t0 + n] = add(out[t0 + n], mult(out[n], b));
-        n += 1;
     }
     out
 }

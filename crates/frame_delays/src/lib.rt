@@ -3,44 +3,33 @@
 #![tactic(auto)]
 
 ghost use Rattle.std.specs.Prelude.{◌≡◌};
+ghost use Rattle.refusal.specs.Refusal.{code, numbered};
 ghost use Rattle.frame_delays.specs.Delays.{refusal, Answer, frame_delays};
 
 use block::places::FRAME_LENGTH;
 use pitch::PitchState;
+use refusal::Refusal;
 use rule::Report;
 
-// A refusal with its number and no other value, or the delays that the subframes use, with their rules.
-#[derive(Clone, Copy)]
-pub enum Scanned {
-    Refused(u32),
-    Done(Report),
-}
-
-// The first refusal that applies, in the order of the frame call: 4 for a carried delay out of range, then 5 and 6; or 0.
-fn refusal(carried: i16, kind: u32, payload: &[u8]) -> u32
-    ensures { result ≡ refusal carried kind payload.now }
+// The first refusal that applies, in the order of the frame call: a carried delay out of range, then the kind and the payload.
+#[tactic(auto, unfolding(crate::specs::Delays::refusal, decoder::specs::Call::first_of))]
+fn check(carried: i16, kind: u32, payload: &[u8]) -> Result<(), Refusal>
+    ensures { code result ≡ refusal carried kind payload.now }
 {
     if !tables::delay_in_range(carried) {
-        return 4;
+        return Err(Refusal::StateValues);
     }
     decoder::input_check(kind, payload, FRAME_LENGTH)
 }
 
 // Both delays and both rules of a frame, with the delay that is carried on written; or why it is refused, and the carried one as it was.
-pub fn frame_delays(carried: &mut i16, kind: u32, payload: &[u8]) -> Scanned
-    ensures { Answer.answer result carried.new ≡ frame_delays carried.old kind payload.now }
+#[tactic(auto, using(crate::specs::Laws::refused))]
+pub fn frame_delays(carried: &mut i16, kind: u32, payload: &[u8]) -> Result<Report, Refusal>
+    ensures { Answer.answer (numbered result) carried.new ≡ frame_delays carried.old kind payload.now }
 {
-    let old = *carried;
-    let number = refusal(old, kind, payload);
-    if number != 0 {
-        return Scanned::Refused(number);
-    }
+    check(*carried, kind, payload)?;
     let d = plc::decide(kind, payload);
-    let found = rule::delays(d, PitchState { old });
-    let first = found.first;
-    let second = found.second;
-    let state = found.state;
-    let next = state.old;
-    *carried = next;
-    Scanned::Done(rule::handed_up(d, first, second))
+    let found = rule::delays(d, PitchState { old: *carried });
+    *carried = found.state.old;
+    Ok(rule::handed_up(d, found.first, found.second))
 }

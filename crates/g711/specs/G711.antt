@@ -1,6 +1,6 @@
 -- G.711: A-law and mu-law bytes as samples of 16 bits, and back (change request 8; ITU-T G.711, Tables 1a to 2b, whose decoder output values are of 13 bits in A-law
 -- and 14 in mu-law: here eight and four times these).
-use Rattle.std.specs.Prelude.{Bool, true, false, cond, ◌&&◌, ◌||◌, List, [], ◌∷◌, map, ℕ, zero, suc, ◌+◌, ◌-◌, ◌*◌, ◌/◌, ◌%◌, ◌^◌, eqb, ltb, ℤ, pos, neg_ℤ, length}
+use Rattle.std.specs.Prelude.{Bool, true, cond, ◌&&◌, ◌||◌, List, [], ◌∷◌, map, ℕ, zero, suc, ◌+◌, ◌-◌, ◌*◌, ◌/◌, ◌%◌, ◌^◌, eqb, ltb, ℤ, pos, neg_ℤ, length}
 use Rattle.std.specs.Int.Bits.{bit_xor}
 use Rattle.laws.specs.Ints.{sameZ}
 

@@ -1,5 +1,4 @@
-// The sample of each byte (ITU-T G.711, Tables 1a to 2b): entry b is the value of byte b. `expand_a` and `expand_mu` of lib.rt promise the rule that each meets.
-// They bind it by a `let`, once a call: an array constant that is indexed would be copied at each read.
+// The sample of each byte (ITU-T G.711, Tables 1a to 2b): entry b is the value of byte b. `Law::table` of lib.rt promises the rule that each meets.
 pub const A_LAW: [i16; 256] = [
     -5504, -5248, -6016, -5760, -4480, -4224, -4992, -4736, -7552, -7296, -8064, -7808, -6528,
     -6272, -7040, -6784, -2752, -2624, -3008, -2880, -2240, -2112, -2496, -2368, -3776, -3648,

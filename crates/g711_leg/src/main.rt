@@ -2,11 +2,11 @@
 // the work is done on lent memory, by crates leg and wav; source reads.
 #![tactic(auto)]
 
-ghost use Rattle.std.specs.Prelude.{◌<◌};
-
 mod reading;
 mod writing;
 
+use files::Told;
+use g711::Law;
 use options::Asked;
 use std::fmt::InlineText;
 
@@ -14,63 +14,43 @@ const USAGE: [u8; 105] =
     *b"usage: g711_leg read LAW [LEG]\n       g711_leg write LAW SAMPLES LEG\n       g711_leg wav LAW SAMPLES LEG\n";
 
 // What the first word asks for.
-const OTHER: u32 = 0;
-
-const READ: u32 = 1;
-
-const WRITE: u32 = 2;
-
-const WAV: u32 = 3;
+#[derive(Clone, Copy)]
+enum Task {
+    Read,
+    Write,
+    Wav,
+}
 
 // The samples of a whole line.
 pub(crate) const SAMPLES: usize = 80;
 
-// As many turns as there can be.
-pub(crate) const MOST: u64 = 18446744073709551615;
-
-// How many turns may follow.
-pub(crate) fn rest(most: u64, more: bool) -> u64
-    requires { 0 < most }
-    ensures { result < most }
-{
-    if more { most - 1 } else { 0 }
-}
-
 // A form with a number on standard output, where all before it was written: its opening, the number, and what closes it.
-pub(crate) fn tell(rt: &HostRuntime, opening: &[u8], n: u64) {
+pub(crate) fn tell(rt: &HostRuntime, opening: &[u8], n: u64) -> Result<(), Told> {
     let digits = InlineText::<20>::of(n);
-    if files::write(rt, opening) && files::write(rt, digits.as_str().as_bytes()) {
-        files::write(rt, b"))\n");
+    files::write(rt, opening)?;
+    files::write(rt, digits.as_str().as_bytes())?;
+    files::write(rt, b"))\n")
+}
+
+// What the word of an argument asks for, where it is known.
+fn asked(rt: &HostRuntime, i: Option<usize>) -> Option<Task> {
+    let mut word = [0u8; 4096];
+    match files::argument(rt, i, b"", &mut word) {
+        b"read" => Some(Task::Read),
+        b"write" => Some(Task::Write),
+        b"wav" => Some(Task::Wav),
+        _ => None,
     }
 }
 
-// What the word of an argument asks for.
-fn asked(rt: &HostRuntime, i: usize) -> u32 {
+// The law that an argument names, if it does.
+fn named_law(rt: &HostRuntime, i: Option<usize>) -> Option<Law> {
     let mut word = [0u8; 4096];
-    let n = files::argument(rt, i, b"", &mut word);
-    if text::same(&word[0..n], b"read") {
-        return READ;
+    match files::argument(rt, i, b"", &mut word) {
+        b"a" => Some(Law::A),
+        b"mu" => Some(Law::Mu),
+        _ => None,
     }
-    if text::same(&word[0..n], b"write") {
-        return WRITE;
-    }
-    if text::same(&word[0..n], b"wav") {
-        return WAV;
-    }
-    OTHER
-}
-
-// The law that an argument names; 0 where it is none.
-fn law(rt: &HostRuntime, i: usize) -> u32 {
-    let mut word = [0u8; 4096];
-    let n = files::argument(rt, i, b"", &mut word);
-    if text::same(&word[0..n], b"a") {
-        return g711::A;
-    }
-    if text::same(&word[0..n], b"mu") {
-        return g711::MU;
-    }
-    0
 }
 
 // A command line that can't be taken: why, and the usage.
@@ -81,40 +61,40 @@ fn misused(rt: &HostRuntime, what: &[u8]) {
 }
 
 // A leg to printed samples.
-fn read(rt: &HostRuntime, a: Asked, law: u32) {
+fn read(rt: &HostRuntime, a: Asked, law: Law) {
     if 3 < a.operands {
         misused(rt, b"too many arguments");
         return;
     }
     let mut name = [0u8; 4096];
-    let n = files::argument(rt, a.third, b"standard input", &mut name);
+    let name = files::argument(rt, a.third, b"standard input", &mut name);
     let from = files::input(
         rt,
-        a.third != 0,
-        &name[0..n],
+        a.third.is_some(),
+        name,
         b"g711_leg",
         b"reading a leg's bytes from the terminal; end them with Ctrl-D (g711_leg --help tells more)",
     );
-    if let Some(from) = from {
-        reading::read(rt, law, &from, &name[0..n]);
+    if let Ok(from) = from {
+        reading::read(rt, law, &from, name);
     }
 }
 
 // Printed samples to a leg.
-fn write(rt: &HostRuntime, a: Asked, law: u32, wave: bool) {
+fn write(rt: &HostRuntime, a: Asked, law: Law, wave: bool) {
     if a.operands < 4 {
         misused(rt, b"too few arguments");
         return;
     }
     let mut samples = [0u8; 4096];
     let mut leg = [0u8; 4096];
-    let n = files::argument(rt, a.third, b"", &mut samples);
-    let k = files::argument(rt, a.fourth, b"", &mut leg);
-    writing::write(rt, law, wave, &samples[0..n], &leg[0..k]);
+    let samples = files::argument(rt, a.third, b"", &mut samples);
+    let leg = files::argument(rt, a.fourth, b"", &mut leg);
+    writing::write(rt, law, wave, samples, leg);
 }
 
 fn main(rt: HostRuntime) {
-    if !files::standard_open(&rt) {
+    if files::standard_open(&rt).is_err() {
         return;
     }
     let a = files::asked(&rt, 2, 4);
@@ -132,15 +112,17 @@ fn main(rt: HostRuntime) {
     if done {
         return;
     }
-    let what = asked(&rt, a.first);
-    let law = law(&rt, a.second);
-    if what == OTHER {
+    let Some(task) = asked(&rt, a.first) else {
         misused(&rt, b"the first argument is none of read, write and wav");
-    } else if law == 0 {
+        return;
+    };
+    let Some(law) = named_law(&rt, a.second) else {
         misused(&rt, b"LAW is neither a nor mu");
-    } else if what == READ {
-        read(&rt, a, law);
-    } else {
-        write(&rt, a, law, what == WAV);
+        return;
+    };
+    match task {
+        Task::Read => read(&rt, a, law),
+        Task::Write => write(&rt, a, law, false),
+        Task::Wav => write(&rt, a, law, true),
     }
 }

@@ -2,8 +2,9 @@
 ghost use Rattle.std.specs.Prelude.{◌+◌, ◌-◌, ◌*◌, ◌≤◌, length};
 ghost use Rattle.source.specs.Source.{Inside};
 
-use crate::{MOST, SAMPLES, rest, tell};
+use crate::{SAMPLES, tell};
 use files::Input;
+use g711::Law;
 use print::FRAME_ROOM;
 use source::{ROOM, Source};
 
@@ -12,13 +13,12 @@ const LINES: usize = 200;
 
 const OUT: usize = LINES * FRAME_ROOM;
 
-// Where the reading is: the bytes at hand, the samples that were printed, whether a turn follows, and whether all could be read and written.
+// The leg that is read.
 #[derive(Clone, Copy)]
-struct Place {
-    source: Source,
-    samples: u64,
-    more: bool,
-    good: bool,
+struct Leg<'a> {
+    law: Law,
+    file: &'a Input,
+    name: &'a [u8],
 }
 
 // How many bytes were taken of a leg, and how many were printed for them.
@@ -28,36 +28,19 @@ struct Batch {
     written: usize,
 }
 
-// The line of these bytes at a place, none where there are none; answers the place behind it.
-fn put_line(
-    law: u32,
-    bytes: &[u8],
-    line: &mut [u8; FRAME_ROOM],
-    from: usize,
-    out: &mut [u8],
-) -> usize
-    requires { from + 327 ≤ length out.old }
-    ensures { result ≤ from + 327 }
-{
-    let n = leg::line(law, bytes, line);
-    let view: &[u8] = line;
-    print::put(&view[0..n], from, out)
-}
-
 // The lines of these bytes, as many as have room.
-fn put_lines(law: u32, bytes: &[u8], out: &mut [u8]) -> Batch
+fn put_lines(law: Law, bytes: &[u8], out: &mut [u8]) -> Batch
     requires { 65400 ≤ length out.old }
     ensures { (result.taken ≤ length bytes.now) × (result.written ≤ 65400) }
 {
     let mut line = [0u8; FRAME_ROOM];
     let mut taken = 0;
     let mut written = 0;
-    let mut i = 0;
-    while i < LINES {
-        let end = taken + words::lesser(SAMPLES, bytes.len() - taken);
-        written = put_line(law, &bytes[taken..end], &mut line, written, out);
+    for _ in 0..LINES {
+        let end = taken + SAMPLES.min(bytes.len() - taken);
+        let n = leg::line(u32::from(law), &bytes[taken..end], &mut line);
+        written = print::put(&line[..n], written, out);
         taken = end;
-        i += 1;
     }
     Batch { taken, written }
 }
@@ -72,146 +55,128 @@ fn ready(n: usize, ended: bool) -> usize
     n - n % SAMPLES
 }
 
-// Prints lines of what is at hand. The last turn is the one behind which a leg that has ended has nothing left.
-fn printed(rt: &HostRuntime, law: u32, p: Place, input: &[u8], out: &mut [u8]) -> Place
-    requires { Inside p.source (length input.now) × (65400 ≤ length out.old) }
-    ensures { Inside result.source (length input.now) }
-{
-    let s = p.source;
-    let from = s.from;
-    let end = from + ready(s.to - from, s.ended);
-    let lines = put_lines(law, &input[from..end], out);
-    let n = lines.written;
-    let good = files::write(rt, &out[0..n]);
-    let left = source::used(s, lines.taken);
-    Place {
-        source: left,
-        samples: p.samples.wrapping_add(lines.taken as u64),
-        more: good & ((left.from != left.to) | !left.ended),
-        good,
+// Where the reading is: the bytes at hand, and the samples that were printed.
+#[derive(Clone, Copy)]
+struct Place {
+    source: Source,
+    samples: u64,
+}
+
+// What follows a turn: another one; the end of the leg; or the end where something could not be read or written, and the reason was said.
+#[derive(Clone, Copy, PartialEq, Eq)]
+enum Next {
+    Go,
+    Done,
+    Failed,
+}
+
+impl Place {
+    // Prints lines of what is at hand. The last turn is the one behind which a leg that has ended has nothing left.
+    fn print(&mut self, rt: &HostRuntime, law: Law, input: &[u8], out: &mut [u8]) -> Next
+        requires { Inside self.old.source (length input.now) × (65400 ≤ length out.old) }
+        ensures { Inside self.new.source (length input.now) }
+    {
+        let s = self.source;
+        let from = s.from;
+        let end = from + ready(s.to - from, s.ended);
+        let lines = put_lines(law, &input[from..end], out);
+        let left = source::used(s, lines.taken);
+        self.source = left;
+        self.samples = self.samples.wrapping_add(lines.taken as u64);
+        if files::write(rt, &out[..lines.written]).is_err() {
+            return Next::Failed;
+        }
+        if left.from == left.to && left.ended {
+            Next::Done
+        } else {
+            Next::Go
+        }
+    }
+
+    // One turn: a read where fewer bytes are at hand than a whole line has, else lines.
+    fn turn(&mut self, rt: &HostRuntime, leg: Leg, input: &mut [u8], out: &mut [u8]) -> Next
+        requires { Inside self.old.source (length input.old) × (65400 ≤ length out.old) }
+        ensures { Inside self.new.source (length input.old) }
+    {
+        let s = self.source;
+        if s.to - s.from < SAMPLES && !s.ended {
+            let s = source::fill(rt, leg.file, leg.name, s, input);
+            self.source = s;
+            return if s.good { Next::Go } else { Next::Failed };
+        }
+        self.print(rt, leg.law, input, out)
     }
 }
 
-// One turn: a read where fewer bytes are at hand than a whole line has, else lines.
-fn turn(
-    rt: &HostRuntime,
-    law: u32,
-    file: &Input,
-    name: &[u8],
-    p: Place,
-    input: &mut [u8],
-    out: &mut [u8],
-) -> Place
-    requires { Inside p.source (length input.old) × (65400 ≤ length out.old) }
-    ensures { Inside result.source (length input.old) }
+// Turns up to the end of a leg; whether all could be read and written.
+fn pass(rt: &HostRuntime, leg: Leg, p: &mut Place, input: &mut [u8; ROOM]) -> bool
+    requires { Inside p.old.source 65536 }
 {
-    let s = p.source;
-    if (s.to - s.from < SAMPLES) & !s.ended {
-        let s = source::fill(rt, file, name, s, input);
-        return Place {
-            source: s,
-            samples: p.samples,
-            more: s.good,
-            good: s.good,
-        };
+    let mut out = [0u8; OUT];
+    for _ in 0..u64::MAX {
+        match p.turn(rt, leg, input, &mut out) {
+            Next::Go => {}
+            Next::Done => break,
+            Next::Failed => return false,
+        }
     }
-    printed(rt, law, p, input, out)
-}
-
-// `turn` on the whole buffers.
-fn next(
-    rt: &HostRuntime,
-    law: u32,
-    file: &Input,
-    name: &[u8],
-    p: Place,
-    input: &mut [u8; ROOM],
-    out: &mut [u8; OUT],
-) -> Place
-    requires { Inside p.source 65536 }
-    ensures { Inside result.source 65536 }
-{
-    turn(rt, law, file, name, p, input, out)
+    true
 }
 
 // A whole leg, from what is at hand of it, and its total.
-fn convert(
-    rt: &HostRuntime,
-    law: u32,
-    file: &Input,
-    name: &[u8],
-    start: Source,
-    input: &mut [u8; ROOM],
-)
+fn convert(rt: &HostRuntime, leg: Leg, start: Source, input: &mut [u8; ROOM])
     requires { Inside start 65536 }
 {
-    let mut out = [0u8; OUT];
     let mut p = Place {
         source: start,
         samples: 0,
-        more: true,
-        good: true,
     };
-    let mut most: u64 = MOST;
-    while 0 < most {
-        let from = p;
-        p = next(rt, law, file, name, from, input, &mut out);
-        most = rest(most, p.more);
-    }
-    if p.good {
+    if pass(rt, leg, &mut p, input) {
         if source::cut(p.source) {
             files::say(
                 rt,
-                name,
+                leg.name,
                 b"a WAV file of fewer samples than it says: it was cut, or its length was not known when it was written",
             );
         }
-        tell(rt, b"(total (samples ", p.samples);
+        let _ = tell(rt, b"(total (samples ", p.samples);
     }
 }
 
-// What is at hand of a leg of which n bytes were read: the samples of a WAV file, which must be of this law, or all.
-fn begun(rt: &HostRuntime, law: u32, name: &[u8], input: &[u8], n: usize) -> Source
-    requires { n ≤ length input.now }
-    ensures { Inside result (length input.now) }
+// What is at hand of a leg that begins with these bytes: the samples of a WAV file, which must be of this law, or all.
+fn begun(rt: &HostRuntime, leg: Leg, bytes: &[u8]) -> Source
+    ensures { Inside result (length bytes.now) }
 {
-    let bytes = &input[0..n];
-    if !text::starts(bytes, b"RIFF") {
-        return source::raw(n);
+    if !bytes.starts_with(b"RIFF") {
+        return source::raw(bytes.len());
     }
-    if law == g711::A {
-        return source::wave(
+    match leg.law {
+        Law::A => source::wave(
             rt,
-            name,
+            leg.name,
             bytes,
             wav::A_LAW,
             8,
             b"A-law of 8 bits (format 6)",
-        );
+        ),
+        Law::Mu => source::wave(
+            rt,
+            leg.name,
+            bytes,
+            wav::MU_LAW,
+            8,
+            b"mu-law of 8 bits (format 7)",
+        ),
     }
-    source::wave(
-        rt,
-        name,
-        bytes,
-        wav::MU_LAW,
-        8,
-        b"mu-law of 8 bits (format 7)",
-    )
 }
 
-// The first bytes of a leg, and what is at hand of it. A read that fails is told by the next one.
-fn opening(rt: &HostRuntime, law: u32, file: &Input, name: &[u8], input: &mut [u8; ROOM]) -> Source
-    ensures { Inside result 65536 }
-{
-    let n = files::read_full(file, input);
-    begun(rt, law, name, input, n)
-}
-
-// Prints the samples of an open leg. Where it can't be read or is a WAV file of another kind the reason is on standard error, and there is no total.
-pub(crate) fn read(rt: &HostRuntime, law: u32, file: &Input, name: &[u8]) {
+// Prints the samples of an open leg. Where it can't be read or is a WAV file of another kind the reason is on standard error, and there is no total. A first read that fails is told by the next one.
+pub(crate) fn read(rt: &HostRuntime, law: Law, file: &Input, name: &[u8]) {
+    let leg = Leg { law, file, name };
     let mut input = [0u8; ROOM];
-    let start = opening(rt, law, file, name, &mut input);
+    let n = file.read_full(&mut input);
+    let start = begun(rt, leg, &input[..n]);
     if start.good {
-        convert(rt, law, file, name, start, &mut input);
+        convert(rt, leg, start, &mut input);
     }
 }

@@ -1,11 +1,11 @@
 // Printed samples to a leg. The text is read twice: every line is tested before the leg is made, so that a text that is refused makes no file.
-ghost use Rattle.std.specs.Prelude.{◌<◌, ◌≤◌, length};
+ghost use Rattle.std.specs.Prelude.{◌≡◌, ◌<◌, ◌≤◌, length, IfOk};
 ghost use Rattle.source.specs.Source.{Inside};
-ghost use Rattle.g711_leg.specs.Held.{Held};
 
-use crate::{MOST, SAMPLES, rest, tell};
-use files::Input;
-use print::FORM_ROOM;
+use crate::{SAMPLES, tell};
+use files::{Input, Told};
+use g711::Law;
+use refusal::Refusal;
 use source::{ROOM, Source};
 use std::fmt::InlineText;
 use std::fs::File;
@@ -16,387 +16,296 @@ use wav::HEADER;
 // The bytes of a leg that are written at once.
 const OUT: usize = 16384;
 
-// The bytes of `(total (samples `.
-const OPENING: usize = 16;
-
-// What follows a line: another one, or the end; behind a total only the end.
-const GO: u32 = 0;
-
-const TOTAL: u32 = 1;
-
-// The text has ended; or something could not be read or written, and the reason was said.
-const DONE: u32 = 2;
-
-const FAILED: u32 = 3;
+// What a total begins with.
+const OPENING: [u8; 16] = *b"(total (samples ";
 
 // Why a line is refused: it has no form, a sample that no byte has, stands behind the total, has no line feed, is longer than the buffer, or is a total of other samples.
-const NO_LINE: u32 = 4;
-
-const NO_BYTE: u32 = 5;
-
-const BEHIND: u32 = 6;
-
-const NO_FEED: u32 = 7;
-
-const LONG: u32 = 8;
-
-const OTHER_TOTAL: u32 = 9;
-
-// The law, and the open files; there is no leg where the text is only tested.
-#[derive(Drop)]
-struct Files {
-    law: u32,
-    text: Input,
-    leg: Option<File>,
+#[derive(Clone, Copy)]
+enum Fault {
+    NoLine,
+    NoByte,
+    Behind,
+    NoFeed,
+    Long,
+    OtherTotal,
 }
 
-// Where a text is: its bytes at hand, the lines that were begun, the samples that were taken, how many bytes of the leg are not written yet, and what follows.
+impl Fault {
+    fn refusal(self) -> Refusal {
+        match self {
+            Fault::NoByte => Refusal::NoTableValue,
+            _ => Refusal::LineForm,
+        }
+    }
+
+    // In words.
+    fn words(self) -> &'static [u8] {
+        match self {
+            Fault::NoByte => b"refused (17): a sample that is no value of this law",
+            Fault::Behind => b"refused (9): a line behind the total",
+            Fault::OtherTotal =>
+                b"refused (9): the total of another number of samples; some may be missing",
+            Fault::NoFeed => b"refused (9): the last line has no line feed; it may be cut",
+            Fault::NoLine | Fault::Long =>
+                b"refused (9): neither `(pcm H)` with four hexadecimal digits, 0-9 and a-f, for each of 1 to 80 samples nor a total",
+        }
+    }
+}
+
+// Why a text is not read to its end.
+#[derive(Clone, Copy)]
+enum Stop {
+    Told,
+    Refused { line: u32, why: Fault },
+}
+
+impl From<Told> for Stop {
+    ghost from_gives = { λ _ _. Unit };
+
+    fn from(_told: Told) -> Self {
+        Stop::Told
+    }
+}
+
+// ---- the leg
+
+// A new leg: its name, its file, and its bytes that are not written yet.
+#[derive(Drop)]
+struct Leg<'a> {
+    name: &'a [u8],
+    file: File,
+    bytes: [u8; OUT],
+    held: usize,
+    ghost within: { held ≤ 16384 },
+}
+
+impl<'a> Leg<'a> {
+    // Makes it, which must be new.
+    fn create(rt: &HostRuntime, name: &'a [u8]) -> Result<Leg<'a>, Told> {
+        let file = files::or_tell(rt, name, files::create(rt, name))?;
+        Ok(Leg {
+            name,
+            file,
+            bytes: [0; OUT],
+            held: 0,
+        })
+    }
+
+    // Bytes at the file's place.
+    fn put(&self, rt: &HostRuntime, bytes: &[u8]) -> Result<(), Told> {
+        files::or_tell(rt, self.name, files::write_all(&self.file, bytes))
+    }
+
+    // Writes the bytes that are not written yet.
+    fn flush(&mut self, rt: &HostRuntime) -> Result<(), Told>
+        ensures { self.new.held ≡ 0 }
+    {
+        let n = self.held;
+        self.held = 0;
+        let view: &[u8] = &self.bytes;
+        self.put(rt, &view[..n])
+    }
+
+    // Bytes behind those that are not written yet, which are written where there is no room.
+    fn keep(&mut self, rt: &HostRuntime, bytes: &[u8]) -> Result<(), Told>
+        requires { length bytes.now ≤ 16384 }
+    {
+        if OUT - self.held < bytes.len() {
+            self.flush(rt)?;
+        }
+        self.held = print::put(bytes, self.held, &mut self.bytes);
+        Ok(())
+    }
+
+    // The header of a WAV file of so many samples, if it can have them.
+    fn begin(&self, rt: &HostRuntime, law: Law, samples: u64) -> Result<(), Told> {
+        if samples > wav::MOST as u64 {
+            files::say(
+                rt,
+                self.name,
+                b"more than 4,294,967,244 samples, which a WAV file can't have: write them as bytes",
+            );
+            return Err(Told);
+        }
+        let mut head = [0u8; HEADER];
+        let tag = match law {
+            Law::A => wav::A_LAW,
+            Law::Mu => wav::MU_LAW,
+        };
+        wav::header(tag, 8, samples as u32, &mut head);
+        self.put(rt, &head)
+    }
+
+    // Has the system keep it: an error that comes late, as of a disk across a network, is seen here.
+    fn sync(&self, rt: &HostRuntime) -> Result<(), Told> {
+        files::or_tell(rt, self.name, self.file.sync_all())
+    }
+}
+
+// ---- the text
+
+// A text of samples of this law.
+#[derive(Drop)]
+struct Text<'a> {
+    law: Law,
+    file: Input,
+    name: &'a [u8],
+}
+
+// Where a text is: its bytes at hand, the lines that were begun, the samples that were taken, and whether their total was, so that only the end may follow.
 #[derive(Clone, Copy)]
 struct Place {
     source: Source,
     lines: u32,
     samples: u64,
-    held: usize,
-    next: u32,
+    total: bool,
 }
 
-// What follows a line, and how many bytes of the leg it has.
-#[derive(Clone, Copy)]
-struct Line {
-    next: u32,
-    bytes: usize,
-}
-
-// How many bytes of the leg are not written yet, and whether those before could be written.
-#[derive(Clone, Copy)]
-struct Kept {
-    held: usize,
-    good: bool,
-}
-
-// Whether a text is the total of so many samples.
+// Whether a text that begins as a total is that of so many samples.
 fn is_total(text: &[u8], samples: u64) -> bool {
     let shown = InlineText::<20>::of(samples);
     let digits = shown.as_str().as_bytes();
-    let k = digits.len();
-    if text.len() < OPENING {
-        return false;
+    match text.strip_prefix(&OPENING) {
+        Some(number) => match number.strip_prefix(digits) {
+            Some(rest) => rest == b"))".as_slice(),
+            None => false,
+        },
+        None => false,
     }
-    let number = &text[OPENING..];
-    if number.len() < k {
-        return false;
-    }
-    text::same(&number[0..k], digits) && text::same(&number[k..], b"))")
 }
 
-// One line, without its line feed, behind one that this follows and so many samples; its bytes at the front of `bytes`.
-fn read_line(law: u32, next: u32, samples: u64, text: &[u8], bytes: &mut [u8; SAMPLES]) -> Line
-    ensures { result.bytes ≤ 80 }
+// The bytes of a line of samples, without its line feed, at the front of `bytes`; how many.
+fn read_line(law: Law, text: &[u8], bytes: &mut [u8; SAMPLES]) -> Result<usize, Fault>
+    ensures { IfOk result (λ n. n ≤ 80) }
 {
-    if next == TOTAL {
-        return Line {
-            next: BEHIND,
-            bytes: 0,
-        };
-    }
-    if text::starts(text, b"(total (samples ") {
-        return Line {
-            next: if is_total(text, samples) {
-                TOTAL
-            } else {
-                OTHER_TOTAL
-            },
-            bytes: 0,
-        };
-    }
-    let taken = leg::bytes_of(law, text, bytes);
-    if taken.code == 0 {
-        return Line {
-            next: GO,
-            bytes: taken.samples,
-        };
-    }
-    Line {
-        next: if taken.code == 17 { NO_BYTE } else { NO_LINE },
-        bytes: 0,
+    match leg::bytes_of(u32::from(law), text, bytes) {
+        Ok(n) => Ok(n),
+        Err(Refusal::NoTableValue) => Err(Fault::NoByte),
+        Err(_) => Err(Fault::NoLine),
     }
 }
 
-// Writes bytes of the leg, where there is one. False, with a message, where not all could be written.
-fn put(rt: &HostRuntime, leg: &Option<File>, name: &[u8], bytes: &[u8]) -> bool {
-    match leg {
-        None => true,
-        Some(file) => put_all(rt, file, name, bytes),
-    }
-}
-
-// The same of an open leg.
-fn put_all(rt: &HostRuntime, leg: &File, name: &[u8], bytes: &[u8]) -> bool {
-    match files::write_all(leg, bytes) {
-        Ok(()) => true,
-        Err(e) => {
-            files::fail(rt, name, e);
-            false
+impl Place {
+    // The line that was begun last is refused.
+    fn refused(&self, why: Fault) -> Stop {
+        Stop::Refused {
+            line: self.lines,
+            why,
         }
     }
-}
 
-// Bytes of the leg behind those that are not written yet, which are written where there is no room.
-fn keep(
-    rt: &HostRuntime,
-    leg: &Option<File>,
-    name: &[u8],
-    bytes: &[u8],
-    held: usize,
-    out: &mut [u8],
-) -> Kept
-    requires { (held ≤ length out.old) × (length bytes.now ≤ length out.old) }
-    ensures { result.held ≤ length out.old }
-{
-    if bytes.len() <= out.len() - held {
-        return Kept {
-            held: print::put(bytes, held, out),
-            good: true,
+    // No whole line is at hand: a read, or the end. Whether a further turn follows.
+    fn lack(&mut self, rt: &HostRuntime, text: &Text, input: &mut [u8]) -> Result<bool, Stop>
+        requires { Inside self.old.source (length input.old) }
+        ensures { Inside self.new.source (length input.old) }
+    {
+        let s = self.source;
+        let left = s.to - s.from;
+        if !s.ended && left < input.len() {
+            let s = source::fill(rt, &text.file, text.name, s, input);
+            self.source = s;
+            return if s.good { Ok(true) } else { Err(Stop::Told) };
+        }
+        self.lines = line_step::one_more(self.lines);
+        if left == 0 {
+            return Ok(false);
+        }
+        Err(self.refused(if s.ended { Fault::NoFeed } else { Fault::Long }))
+    }
+
+    // A line, without its line feed.
+    fn take(
+        &mut self,
+        rt: &HostRuntime,
+        law: Law,
+        leg: &mut Option<Leg>,
+        line: &[u8],
+    ) -> Result<(), Stop>
+        ensures { self.new.source ≡ self.old.source }
+    {
+        self.lines = line_step::one_more(self.lines);
+        if self.total {
+            return Err(self.refused(Fault::Behind));
+        }
+        if line.starts_with(&OPENING) {
+            self.total = is_total(line, self.samples);
+            return if self.total {
+                Ok(())
+            } else {
+                Err(self.refused(Fault::OtherTotal))
+            };
+        }
+        let mut bytes = [0u8; SAMPLES];
+        let n = match read_line(law, line, &mut bytes) {
+            Ok(n) => n,
+            Err(why) => return Err(self.refused(why)),
         };
+        self.samples = self.samples.wrapping_add(n as u64);
+        if let Some(leg) = leg {
+            leg.keep(rt, &bytes[..n])?;
+        }
+        Ok(())
     }
-    let good = put(rt, leg, name, &out[0..held]);
-    Kept {
-        held: print::put(bytes, 0, out),
-        good,
+
+    // The next line, or a read where there is no whole one. Whether a further turn follows.
+    fn turn(
+        &mut self,
+        rt: &HostRuntime,
+        text: &Text,
+        leg: &mut Option<Leg>,
+        input: &mut [u8],
+    ) -> Result<bool, Stop>
+        requires { Inside self.old.source (length input.old) }
+        ensures { Inside self.new.source (length input.old) }
+    {
+        let s = self.source;
+        let from = s.from;
+        let end = octets::find(input, from, s.to, 10);
+        if end == s.to {
+            return self.lack(rt, text, input);
+        }
+        self.source = source::used(s, end + 1 - from);
+        self.take(rt, text.law, leg, &input[from..end])?;
+        Ok(true)
     }
 }
 
-// The first n bytes of a line's, kept.
-fn keep_line(
-    rt: &HostRuntime,
-    leg: &Option<File>,
-    name: &[u8],
-    bytes: &[u8; SAMPLES],
-    n: usize,
-    held: usize,
-    out: &mut [u8],
-) -> Kept
-    requires { (n ≤ 80) × ((held ≤ length out.old) × (80 ≤ length out.old)) }
-    ensures { result.held ≤ length out.old }
+// All lines of a text.
+fn lines(rt: &HostRuntime, text: &Text, leg: &mut Option<Leg>, p: &mut Place) -> Result<(), Stop>
+    requires { Inside p.old.source 65536 }
 {
-    let view: &[u8] = bytes;
-    keep(rt, leg, name, &view[0..n], held, out)
-}
-
-// What follows, where all could be read and written.
-fn follows(good: bool, next: u32) -> u32 {
-    if good { next } else { FAILED }
-}
-
-// What follows where no whole line is at hand and none can be read.
-fn last(held: usize, ended: bool) -> u32 {
-    if held == 0 {
-        return DONE;
-    }
-    if ended { NO_FEED } else { LONG }
-}
-
-// No whole line is at hand: a read, or the end.
-fn lacking(rt: &HostRuntime, file: &Input, name: &[u8], p: Place, input: &mut [u8]) -> Place
-    requires { Inside p.source (length input.old) }
-    ensures { Inside result.source (length input.old) × (result.held ≤ p.held) }
-{
-    let s = p.source;
-    let left = s.to - s.from;
-    if s.ended | (left == input.len()) {
-        return Place {
-            source: s,
-            lines: line_step::one_more(p.lines),
-            samples: p.samples,
-            held: p.held,
-            next: last(left, s.ended),
-        };
-    }
-    let s = source::fill(rt, file, name, s, input);
-    Place {
-        source: s,
-        lines: p.lines,
-        samples: p.samples,
-        held: p.held,
-        next: follows(s.good, p.next),
-    }
-}
-
-// The line that ends before a place.
-fn take(
-    rt: &HostRuntime,
-    f: &Files,
-    leg: &[u8],
-    p: Place,
-    end: usize,
-    input: &[u8],
-    bytes: &mut [u8; SAMPLES],
-    out: &mut [u8],
-) -> Place
-    requires { Held p (length input.now) (length out.old) × ((p.source.from ≤ end) × ((end < p.source.to) × (80 ≤ length out.old))) }
-    ensures { Held result (length input.now) (length out.old) }
-{
-    let s = p.source;
-    let from = s.from;
-    let line = read_line(f.law, p.next, p.samples, &input[from..end], bytes);
-    let kept = keep_line(rt, &f.leg, leg, bytes, line.bytes, p.held, out);
-    let left = source::used(s, end + 1 - from);
-    Place {
-        source: left,
-        lines: line_step::one_more(p.lines),
-        samples: p.samples.wrapping_add(line.bytes as u64),
-        held: kept.held,
-        next: follows(kept.good, line.next),
-    }
-}
-
-// The next line, or a read where there is no whole one.
-fn turn(
-    rt: &HostRuntime,
-    f: &Files,
-    name: &[u8],
-    leg: &[u8],
-    p: Place,
-    input: &mut [u8],
-    bytes: &mut [u8; SAMPLES],
-    out: &mut [u8],
-) -> Place
-    requires { Held p (length input.old) (length out.old) × (80 ≤ length out.old) }
-    ensures { Held result (length input.old) (length out.old) }
-{
-    let s = p.source;
-    let end = octets::find(input, s.from, s.to, 10);
-    if end == s.to {
-        return lacking(rt, &f.text, name, p, input);
-    }
-    take(rt, f, leg, p, end, input, bytes, out)
-}
-
-// `turn` on the whole buffers.
-fn next(
-    rt: &HostRuntime,
-    f: &Files,
-    name: &[u8],
-    leg: &[u8],
-    p: Place,
-    input: &mut [u8; ROOM],
-    bytes: &mut [u8; SAMPLES],
-    out: &mut [u8; OUT],
-) -> Place
-    requires { Held p 65536 16384 }
-    ensures { Held result 65536 16384 }
-{
-    turn(rt, f, name, leg, p, input, bytes, out)
-}
-
-// Behind the last line: the bytes that are not written yet are written, where nothing failed before.
-fn ended(rt: &HostRuntime, f: &Files, leg: &[u8], p: Place, out: &[u8; OUT]) -> Place
-    requires { Held p 65536 16384 }
-{
-    if p.next == FAILED {
-        return p;
-    }
-    let s = p.source;
-    let n = p.held;
-    let view: &[u8] = out;
-    let good = put(rt, &f.leg, leg, &view[0..n]);
-    Place {
-        source: s,
-        lines: p.lines,
-        samples: p.samples,
-        held: 0,
-        next: follows(good, p.next),
-    }
-}
-
-// All lines of a text: tested, and written where there is a leg.
-fn pass(rt: &HostRuntime, f: &Files, name: &[u8], leg: &[u8]) -> Place {
     let mut input = [0u8; ROOM];
-    let mut bytes = [0u8; SAMPLES];
-    let mut out = [0u8; OUT];
+    for _ in 0..u64::MAX {
+        if !p.turn(rt, text, leg, &mut input)? {
+            return Ok(());
+        }
+    }
+    Err(p.refused(Fault::NoLine))
+}
+
+// All lines of a text: tested, and written where there is a leg. How many samples they have.
+fn pass(rt: &HostRuntime, text: &Text, leg: &mut Option<Leg>) -> Result<u64, Stop> {
     let mut p = Place {
         source: source::unread(),
         lines: 0,
         samples: 0,
-        held: 0,
-        next: GO,
+        total: false,
     };
-    let mut most: u64 = MOST;
-    while 0 < most {
-        let from = p;
-        p = next(rt, f, name, leg, from, &mut input, &mut bytes, &mut out);
-        most = rest(most, (p.next == GO) | (p.next == TOTAL));
+    let done = lines(rt, text, leg, &mut p);
+    if let Err(Stop::Told) = done {
+        return Err(Stop::Told);
     }
-    ended(rt, f, leg, p, &out)
-}
-
-// Why a line is refused, in words.
-fn why(rt: &HostRuntime, line: u32, reason: u32) {
-    if reason == NO_BYTE {
-        files::say_line(
-            rt,
-            b"g711_leg",
-            line,
-            b"refused (17): a sample that is no value of this law",
-        );
-    } else if reason == BEHIND {
-        files::say_line(
-            rt,
-            b"g711_leg",
-            line,
-            b"refused (9): a line behind the total",
-        );
-    } else if reason == OTHER_TOTAL {
-        files::say_line(
-            rt,
-            b"g711_leg",
-            line,
-            b"refused (9): the total of another number of samples; some may be missing",
-        );
-    } else if reason == NO_FEED {
-        files::say_line(
-            rt,
-            b"g711_leg",
-            line,
-            b"refused (9): the last line has no line feed; it may be cut",
-        );
-    } else {
-        files::say_line(
-            rt,
-            b"g711_leg",
-            line,
-            b"refused (9): neither `(pcm H)` with four hexadecimal digits, 0-9 and a-f, for each of 1 to 80 samples nor a total",
-        );
+    if let Some(leg) = leg {
+        leg.flush(rt)?;
     }
+    done?;
+    Ok(p.samples)
 }
 
 // A text that is refused: its form on standard output, and why on standard error.
-fn refuse(rt: &HostRuntime, p: Place) {
-    let mut form = [0u8; FORM_ROOM];
-    let code = if p.next == NO_BYTE { 17 } else { 9 };
-    let n = print::refused(code, p.lines, &mut form);
-    files::print(rt, &form, n);
-    why(rt, p.lines, p.next);
-}
-
-// The header of a WAV file of so many samples. False, with a message, where there are more than it can have, or it can't be written.
-fn begin(rt: &HostRuntime, f: &Files, name: &[u8], samples: u64) -> bool {
-    if (wav::MOST as u64) < samples {
-        files::say(
-            rt,
-            name,
-            b"more than 4,294,967,244 samples, which a WAV file can't have: write them as bytes",
-        );
-        return false;
-    }
-    let mut head = [0u8; HEADER];
-    let tag = if f.law == g711::A {
-        wav::A_LAW
-    } else {
-        wav::MU_LAW
-    };
-    wav::header(tag, 8, samples as u32, &mut head);
-    put(rt, &f.leg, name, &head)
+fn refuse(rt: &HostRuntime, line: u32, why: Fault) {
+    files::print_refused(rt, why.refusal().number(), line);
+    files::say_line(rt, b"g711_leg", line, why.words());
 }
 
 // Moves a text to its first byte. Standard input is none.
@@ -407,86 +316,71 @@ fn to_start(text: &Input) -> io::Result<()> {
     }
 }
 
-// Reads a text of so many samples again and writes the leg. False, with a message, where that fails or the text is another than before.
-fn written(rt: &HostRuntime, f: &Files, wave: bool, name: &[u8], leg: &[u8], samples: u64) -> bool {
-    if wave && !begin(rt, f, leg, samples) {
-        return false;
-    }
-    if let Err(e) = to_start(&f.text) {
-        files::fail(rt, name, e);
-        return false;
-    }
-    let p = pass(rt, f, name, leg);
-    if p.next == FAILED {
-        return false;
-    }
-    if (p.next != DONE) | (p.samples != samples) {
-        files::say(rt, name, b"has changed while it was read");
-        return false;
-    }
-    if wave & (samples % 2 == 1) {
-        return put(rt, &f.leg, leg, b"\0");
-    }
-    true
-}
+// ---- the text to the leg
 
-// Has the system keep the leg: an error that comes late, as of a disk across a network, is seen here. False, with a message, where it can't be kept.
-fn synced(rt: &HostRuntime, f: &Files, leg: &[u8]) -> bool {
-    if let Some(file) = &f.leg {
-        if let Err(e) = file.sync_all() {
-            files::fail(rt, leg, e);
-            return false;
+// Reads a text of so many samples again and writes the leg. Err too where the text is another than before.
+fn copy(rt: &HostRuntime, text: &Text, leg: &mut Option<Leg>, samples: u64) -> Result<(), Told> {
+    files::or_tell(rt, text.name, to_start(&text.file))?;
+    match pass(rt, text, leg) {
+        Ok(n) if n == samples => Ok(()),
+        Err(Stop::Told) => Err(Told),
+        _ => {
+            files::say(rt, text.name, b"has changed while it was read");
+            Err(Told)
         }
     }
-    true
 }
 
-// The leg that was made is written. Where it can't be written whole it is removed again.
-fn finish(rt: &HostRuntime, made: Files, wave: bool, name: &[u8], leg: &[u8], samples: u64) {
-    let good = written(rt, &made, wave, name, leg, samples) && synced(rt, &made, leg);
-    drop(made);
-    if good {
-        tell(rt, b"(written (samples ", samples);
-    } else if let Err(e) = files::remove(rt, leg) {
-        files::fail(rt, leg, e);
+// Writes the leg, raw or a WAV file, whose samples have a byte behind them where their number is odd.
+fn written(
+    rt: &HostRuntime,
+    text: &Text,
+    wave: bool,
+    leg: &mut Option<Leg>,
+    samples: u64,
+) -> Result<(), Told> {
+    if wave && let Some(leg) = leg {
+        leg.begin(rt, text.law, samples)?;
     }
-}
-
-// Makes the leg, which must be new.
-fn make(rt: &HostRuntime, f: Files, wave: bool, name: &[u8], leg: &[u8], samples: u64) {
-    let mut f = f;
-    match files::create(rt, leg) {
-        Ok(file) => {
-            f.leg = Some(file);
-            finish(rt, f, wave, name, leg, samples);
+    copy(rt, text, leg, samples)?;
+    if let Some(leg) = leg {
+        if wave && samples % 2 == 1 {
+            leg.put(rt, b"\0")?;
         }
-        Err(e) => files::fail(rt, leg, e),
+        leg.sync(rt)?;
     }
+    Ok(())
 }
 
-// The samples of an open text to a new leg.
-fn write_from(rt: &HostRuntime, f: Files, wave: bool, name: &[u8], leg: &[u8]) {
-    let p = pass(rt, &f, name, leg);
-    if p.next == DONE {
-        make(rt, f, wave, name, leg, p.samples);
-    } else if p.next != FAILED {
-        refuse(rt, p);
+// Makes the leg, and writes it. Where it can't be written whole it is removed again.
+fn make(rt: &HostRuntime, text: Text, wave: bool, name: &[u8], samples: u64) {
+    let Ok(leg) = Leg::create(rt, name) else {
+        return;
+    };
+    let mut leg = Some(leg);
+    let done = written(rt, &text, wave, &mut leg, samples);
+    drop(leg);
+    drop(text);
+    if done.is_ok() {
+        let _ = tell(rt, b"(written (samples ", samples);
+    } else {
+        let _ = files::or_tell(rt, name, files::remove(rt, name));
     }
 }
 
 // The samples of a text to a new leg, raw or a WAV file.
-pub(crate) fn write(rt: &HostRuntime, law: u32, wave: bool, name: &[u8], leg: &[u8]) {
-    let seen = files::look(rt, name);
-    if seen.there & !seen.regular {
+pub(crate) fn write(rt: &HostRuntime, law: Law, wave: bool, name: &[u8], leg: &[u8]) {
+    if files::look(rt, name).is_ok_and(|seen| !seen.regular) {
         files::say(rt, name, b"not a regular file; it would be read twice");
         return;
     }
-    if let Some(text) = files::opened(rt, name) {
-        let f = Files {
-            law,
-            text,
-            leg: None,
-        };
-        write_from(rt, f, wave, name, leg);
+    let Ok(file) = files::opened(rt, name) else {
+        return;
+    };
+    let text = Text { law, file, name };
+    match pass(rt, &text, &mut None) {
+        Ok(samples) => make(rt, text, wave, leg, samples),
+        Err(Stop::Refused { line, why }) => refuse(rt, line, why),
+        Err(Stop::Told) => {}
     }
 }

@@ -8,9 +8,9 @@ ghost use Rattle.basic_op.specs.Ops.{add, l_add};
 ghost use Rattle.gain.specs.Gain.{sharpening, energy, mean_and_energy, prediction, log2_gain, predict, row_ga, row_gb, fixed_gain_of, gain_error_of, push, decode, conceal_pitch_gain, conceal_fixed_gain, error_sum, conceal_error, conceal};
 
 use basic_op::{
-    add, base2_log, base2_power, extract_h, extract_l, greater, interpolate_q15, join_high_low,
-    l_add, l_mac, l_mult, l_shl, l_shr, lesser, low16, mult, multiply_split_by_16, norm_l, sat32,
-    split_high_low, sub,
+    add, base2_log, base2_power, extract_h, extract_l, interpolate_q15, join_high_low, l_add,
+    l_mac, l_mult, l_shl, l_shr, low16, mult, multiply_split_by_16, norm_l, sat32, split_high_low,
+    sub,
 };
 use tables::{Scalar, scalars, text};
 
@@ -34,7 +34,7 @@ pub fn sharpening(t: &[i16], gp: i16) -> i16
     ensures { result ≡ sharpening t.now gp }
 {
     let max = scalars(t, Scalar::PitchSharpeningMax);
-    greater(lesser(gp, max), text::PITCH_SHARPENING_MIN)
+    gp.min(max).max(text::PITCH_SHARPENING_MIN)
 }
 
 // ---- prediction
@@ -50,10 +50,8 @@ fn energy(code: [i16; 40]) -> i32
     ensures { result ≡ energy code }
 {
     let mut sum = 0i64;
-    let mut k = 0;
-    while k < 40 {
-        sum += square(code[k]);
-        k += 1;
+    for x in code {
+        sum += square(x);
     }
     sat32(sum * 2)
 }
@@ -76,10 +74,8 @@ fn prediction(l: i32, mem: [i16; 4]) -> i32
 {
     let b = tables::formula::gain_prediction_coefficients();
     let mut sum = l;
-    let mut k = 0;
-    while k < 4 {
+    for k in 0..4 {
         sum = l_mac(sum, b[k], mem[k]);
-        k += 1;
     }
     sum
 }
@@ -187,7 +183,7 @@ fn conceal_pitch_gain(t: &[i16], gp: i16) -> i16
     ensures { result ≡ conceal_pitch_gain t.now gp }
 {
     let limit = scalars(t, Scalar::ErasurePitchGainLimit);
-    lesser(mult(gp, text::ERASURE_PITCH_GAIN_ATTENUATION), limit)
+    mult(gp, text::ERASURE_PITCH_GAIN_ATTENUATION).min(limit)
 }
 
 // The fixed gain of an erased subframe (equation (93)).
@@ -203,10 +199,8 @@ fn error_sum(mem: [i16; 4]) -> i32
     ensures { result ≡ error_sum mem }
 {
     let mut sum = 0i32;
-    let mut k = 0;
-    while k < 4 {
-        sum = l_add(sum, mem[k] as i32);
-        k += 1;
+    for u in mem {
+        sum = l_add(sum, u as i32);
     }
     sum
 }
@@ -216,10 +210,7 @@ fn conceal_error(mem: [i16; 4]) -> i16
     ensures { result ≡ conceal_error mem }
 {
     let mean = extract_l(l_shr(error_sum(mem), 2));
-    greater(
-        sub(mean, text::ERASURE_GAIN_MEMORY_OFFSET),
-        text::ERASURE_GAIN_MEMORY_FLOOR,
-    )
+    sub(mean, text::ERASURE_GAIN_MEMORY_OFFSET).max(text::ERASURE_GAIN_MEMORY_FLOOR)
 }
 
 // The state after an erased subframe, whose gains it holds (clauses 4.4.2 and 4.4.3).

@@ -20,20 +20,22 @@ ghost use Rattle.line.specs.Write.{write};
 ghost use Rattle.compare_step.specs.Compare as comparison;
 ghost use Rattle.holdamek.specs.Lent.{comparing, lend_compare, framed, lend_frame, scanned, lend_delays, lent, lend_line, lend_write, lend_playout, counting, lend_count, agreeing, lend_agree};
 
+use compare_step::Class;
+
 mod lent;
 
 #[unsafe(no_mangle)]
 pub extern "C" fn holdamek_table_check(t: &[i16]) -> u32
     ensures { result ≡ table_check t.now }
 {
-    tables::table_check(t)
+    refusal::code(tables::table_check(t))
 }
 
 #[unsafe(no_mangle)]
 pub extern "C" fn holdamek_fields(bytes: &[u8], receiver: &mut [u16]) -> u32
     ensures { fields.answer result receiver.new ≡ fields.fields_call bytes.now receiver.old }
 {
-    bitstream::fields(bytes, receiver)
+    refusal::code(bitstream::fields(bytes, receiver))
 }
 
 // The frame of fifteen fields, in the order of their bits, goes to `bytes`.
@@ -41,7 +43,7 @@ pub extern "C" fn holdamek_fields(bytes: &[u8], receiver: &mut [u16]) -> u32
 pub extern "C" fn holdamek_write_fields(numbers: &[u16], bytes: &mut [u8]) -> u32
     ensures { fields.answer result bytes.new ≡ write_fields numbers.now bytes.old }
 {
-    pack::write_fields(numbers, bytes)
+    refusal::code(pack::write_fields(numbers, bytes))
 }
 
 // The same of fourteen: P0 is left out, and supplied.
@@ -49,7 +51,7 @@ pub extern "C" fn holdamek_write_fields(numbers: &[u16], bytes: &mut [u8]) -> u3
 pub extern "C" fn holdamek_write_fields_parity(numbers: &[u16], bytes: &mut [u8]) -> u32
     ensures { fields.answer result bytes.new ≡ write_fields_parity numbers.now bytes.old }
 {
-    pack::write_fields_parity(numbers, bytes)
+    refusal::code(pack::write_fields_parity(numbers, bytes))
 }
 
 // The number of frames of an RTP payload. No memory is lent for writing: what is answered beside the number is returned with it, 0 beside a refusal.
@@ -73,7 +75,7 @@ pub extern "C" fn holdamek_payload_frame(payload: &[u8], index: usize) -> rtp::F
 pub extern "C" fn holdamek_g711_read(law: u32, bytes: &[u8], samples: &mut [i16]) -> u32
     ensures { g711.read result samples.new ≡ g711.read_call law bytes.now samples.old }
 {
-    g711::read(law, bytes, samples)
+    refusal::code(g711::read(law, bytes, samples))
 }
 
 // And back: the bytes of samples that are table values of the law.
@@ -81,7 +83,7 @@ pub extern "C" fn holdamek_g711_read(law: u32, bytes: &[u8], samples: &mut [i16]
 pub extern "C" fn holdamek_g711_write(law: u32, samples: &[i16], bytes: &mut [u8]) -> u32
     ensures { g711.written result bytes.new ≡ g711.write_call law samples.now bytes.old }
 {
-    g711::write(law, samples, bytes)
+    refusal::code(g711::write(law, samples, bytes))
 }
 
 // What each leg of a conference heard: the sum of all others, limited.
@@ -89,7 +91,7 @@ pub extern "C" fn holdamek_g711_write(law: u32, samples: &[i16], bytes: &mut [u8
 pub extern "C" fn holdamek_mix(legs: &[i16], heard: &mut [i16]) -> u32
     ensures { mixing.mixed result heard.new ≡ mixing.mix_call legs.now heard.old }
 {
-    mix::mix(legs, heard)
+    refusal::code(mix::mix(legs, heard))
 }
 
 // The kind of each frame at a playout depth goes to `kinds`, 0 voice or 3 lost, and how many are lost to `lost`.
@@ -105,10 +107,9 @@ pub extern "C" fn holdamek_playout(
 ) -> u32
     ensures { lent result lost.new kinds.new ≡ lend_playout lost.old (playout frames start depth numbers.now times.now kinds.old) }
 {
-    let answer = playout::playout(frames, start, depth, numbers, times, kinds);
-    match answer {
-        playout::Planned::Refused(n) => n,
-        playout::Planned::Lost(n) => {
+    match playout::playout(frames, start, depth, numbers, times, kinds) {
+        Err(untried) => untried.number(),
+        Ok(n) => {
             *lost = n;
             0
         }
@@ -119,10 +120,11 @@ pub extern "C" fn holdamek_playout(
 pub extern "C" fn holdamek_fresh_state(t: &[i16], b: &mut [i16]) -> u32
     ensures { state.answer result b.new ≡ state.fresh_state t.now b.old }
 {
-    state::fresh_state(t, b)
+    refusal::code(state::fresh_state(t, b))
 }
 
 // The samples go to `out`; the delays that both subframes used to `delays`, integer and fraction of each, and how each was found to `rules`, the numbers of change request 12.
+#[tactic(auto, unfolding(crate::specs::Lent::lend_frame))]
 #[unsafe(no_mangle)]
 pub extern "C" fn holdamek_frame(
     t: &[i16],
@@ -137,8 +139,8 @@ pub extern "C" fn holdamek_frame(
 {
     let answer = decoder::frame(t, b, kind, payload, out);
     match answer {
-        decoder::Framed::Refused(n) => n,
-        decoder::Framed::Done(r) => {
+        Err(r) => r.number(),
+        Ok(r) => {
             *delays = lent::delays_of(r);
             *rules = lent::rules_of(r);
             0
@@ -147,6 +149,7 @@ pub extern "C" fn holdamek_frame(
 }
 
 // The same delays and rules without the samples: from the delay that is carried into the frame, which becomes the one that is carried on.
+#[tactic(auto, unfolding(crate::specs::Lent::lend_delays))]
 #[unsafe(no_mangle)]
 pub extern "C" fn holdamek_delays(
     carried: &mut i16,
@@ -159,8 +162,8 @@ pub extern "C" fn holdamek_delays(
 {
     let answer = frame_delays::frame_delays(carried, kind, payload);
     match answer {
-        frame_delays::Scanned::Refused(n) => n,
-        frame_delays::Scanned::Done(r) => {
+        Err(refused) => refused.number(),
+        Ok(r) => {
             *delays = lent::delays_of(r);
             *rules = lent::rules_of(r);
             0
@@ -173,10 +176,9 @@ pub extern "C" fn holdamek_delays(
 pub extern "C" fn holdamek_line(text: &[u8], kind: &mut u32, payload: &mut [u8]) -> u32
     ensures { lent result kind.new payload.new ≡ lend_line kind.old (line text.now payload.old) }
 {
-    let answer = line::line(text, payload);
-    match answer {
-        line::Read::Refused(n) => n,
-        line::Read::Frame(k) => {
+    match line::line(text, payload) {
+        Err(no_line) => no_line.number(),
+        Ok(k) => {
             *kind = k;
             0
         }
@@ -193,10 +195,9 @@ pub extern "C" fn holdamek_write_line(
 ) -> u32
     ensures { lent result length.new out.new ≡ lend_write length.old (write kind payload.now out.old) }
 {
-    let answer = line::write(kind, payload, out);
-    match answer {
-        line::Written::Refused(n) => n,
-        line::Written::Done(n) => {
+    match line::write(kind, payload, out) {
+        Err(r) => r.number(),
+        Ok(n) => {
             *length = n;
             0
         }
@@ -216,14 +217,10 @@ pub extern "C" fn holdamek_count(kind: u32, first: u32, second: u32, counts: &mu
     if !rules_known {
         return 24;
     }
-    let answer = count::count(
-        kind,
-        lent::rules_of_numbers(first, second),
-        lent::counts_of(counts),
-    );
-    match answer {
-        count::Counted::Refused(n) => n,
-        count::Counted::Done(c) => {
+    let rules = lent::rules_of_numbers(first, second);
+    match count::count(kind, rules, lent::counts_of(counts)) {
+        Err(r) => r.number(),
+        Ok(c) => {
             *counts = lent::numbers_of(c);
             0
         }
@@ -231,27 +228,16 @@ pub extern "C" fn holdamek_count(kind: u32, first: u32, second: u32, counts: &mu
 }
 
 // How far two decoders agree from here on goes to `agreement`: 0 nothing can be said, 1 parameters, 2 pulses, 3 samples.
+#[tactic(auto, unfolding(crate::specs::Lent::lend_agree))]
 #[unsafe(no_mangle)]
 pub extern "C" fn holdamek_agree(a: &[i16], b: &[i16], agreement: &mut u32) -> u32
     ensures { agreeing result agreement.new ≡ lend_agree agreement.old (agree a.now b.now) }
 {
     let answer = agree::agree(a, b);
     match answer {
-        agree::Agreed::Refused(n) => n,
-        agree::Agreed::Nothing => {
-            *agreement = 0;
-            0
-        }
-        agree::Agreed::Parameters => {
-            *agreement = 1;
-            0
-        }
-        agree::Agreed::Pulses => {
-            *agreement = 2;
-            0
-        }
-        agree::Agreed::Samples => {
-            *agreement = 3;
+        Err(r) => r.number(),
+        Ok(found) => {
+            *agreement = found as u32;
             0
         }
     }
@@ -262,10 +248,11 @@ pub extern "C" fn holdamek_agree(a: &[i16], b: &[i16], agreement: &mut u32) -> u
 pub extern "C" fn holdamek_begin_compare(t: &[i16], m: &mut [i16]) -> u32
     ensures { comparison.begun result m.new ≡ comparison.begin t.now m.old }
 {
-    compare_step::begin(t, m)
+    refusal::code(compare_step::begin(t, m))
 }
 
 // What a frame is goes to `class`: 0 concealed, 1 settling, 2 not clean, 3 known, 4 differs; its number in the count, or the first sample that differs, to `number`; how much it differs, to `rest`.
+#[tactic(auto, unfolding(crate::specs::Lent::lend_compare))]
 #[unsafe(no_mangle)]
 pub extern "C" fn holdamek_compare(
     t: &[i16],
@@ -282,32 +269,32 @@ pub extern "C" fn holdamek_compare(
 {
     let answer = compare_step::compare(t, m, kind, payload, y, out);
     match answer {
-        compare_step::Compared::Refused(n) => n,
-        compare_step::Compared::Concealed => {
+        Err(r) => r.number(),
+        Ok(Class::Concealed) => {
             *class = 0;
             *number = 0;
             *rest = 0;
             0
         }
-        compare_step::Compared::Settling(n) => {
+        Ok(Class::Settling(n)) => {
             *class = 1;
             *number = n as u32;
             *rest = 0;
             0
         }
-        compare_step::Compared::NotClean(n) => {
+        Ok(Class::NotClean(n)) => {
             *class = 2;
             *number = n as u32;
             *rest = 0;
             0
         }
-        compare_step::Compared::Known => {
+        Ok(Class::Known) => {
             *class = 3;
             *number = 0;
             *rest = 0;
             0
         }
-        compare_step::Compared::Differs(d) => {
+        Ok(Class::Differs(d)) => {
             *class = 4;
             *number = d.sample as u32;
             let by = d.rest;

@@ -20,14 +20,13 @@ pub fn bounded(a: &[i16; 11]) -> bool
     synth_filter::size_sum(a) <= 61439
 }
 
-// Whether no sample of a frame is at an end of its range.
+// Whether no sample of a frame is at an end of its range. All are tested, so that the compiler tests them side by side.
 pub fn inside(y: &[i16; 80]) -> bool
     ensures { result ≡ inside y.now 80 }
 {
     let mut ok = true;
-    for k in 0..80 {
-        let s = y[k];
-        if (s < -32767) | (32766 < s) {
+    for s in y {
+        if (*s < -32767) | (32766 < *s) {
             ok = false;
         }
     }

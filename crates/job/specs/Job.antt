@@ -1,6 +1,6 @@
 -- The job file: what a call that was stopped between two lines goes on from. 536 bytes, every number low byte first: a head of seven numbers, the state block (01, "The table block
 -- and the state block"), the counts, and the CRC-32 of all these.
-use Rattle.std.specs.Prelude.{ℕ, ◌+◌, ◌-◌, ◌*◌, Bool, cond, ◌&&◌, List, [], ◌∷◌, ◌++◌, length, take, drop, ℤ, ◌==◌, nat_le, slice_index, slice_range}
+use Rattle.std.specs.Prelude.{ℕ, ◌+◌, ◌-◌, ◌*◌, Bool, cond, ◌&&◌, List, [], ◌∷◌, ◌++◌, length, take, drop, ℤ, ◌==◌, nat_le, slice_index, slice_range, Result, Ok, Err}
 use Rattle.count.specs.declared.Counts.{Counts}
 use Rattle.count.specs.Count as Count
 use Rattle.crc32.specs.Crc32.{crc32}
@@ -9,8 +9,6 @@ use Rattle.print.specs.Print.{frame_least, frame_room}
 use Rattle.state.specs.State.{state_check}
 use Rattle.words.specs.Words.{bytes, words, number, number_bytes, numbers, numbers_bytes}
 use Rattle.job.specs.declared.Saved.{Saved}
-use Rattle.job.specs.declared.Found.{Found}
-use Rattle.job.specs.declared.Found.TheVariants.{Refused, Job}
 
 -- ---- written
 
@@ -115,7 +113,7 @@ check f tables =
 
 -- what is found, and the lent state block as the call leaves it: as it was where the file is refused
 pub data Answer : Type 0 where
-  answer : Found → List ℤ → Answer
+  answer : Result Saved ℕ → List ℤ → Answer
 
 unfoldable pub read : List ℕ → ℕ → List ℤ → Answer
-read f tables lent = cond (check f tables == 0) (answer (Job (place f)) (block f)) (answer (Refused (check f tables)) lent)
+read f tables lent = cond (check f tables == 0) (answer (Ok (place f)) (block f)) (answer (Err (check f tables)) lent)

@@ -1,12 +1,11 @@
 -- A resumed call, a part at a time: whether it is the call that the job was begun with, where it is read from and its forms go, how many lines a part has, and what is asked for.
-use Rattle.std.specs.Prelude.{ℕ, ◌+◌, ◌-◌, ◌*◌, ◌%◌, ◌^◌, min, true, false, cond, ◌&&◌, List, [], ◌∷◌, length, take, ℤ, pos, ◌==◌, nat_le}
+use Rattle.std.specs.Prelude.{ℕ, ◌+◌, ◌-◌, ◌*◌, ◌%◌, ◌^◌, min, cond, ◌&&◌, List, [], ◌∷◌, length, take, ℤ, pos, ◌==◌, nat_le, Option, None, Some}
 use Rattle.crc32.specs.Crc32.{more}
 use Rattle.line_step.specs.declared.Progress.{Progress}
 use Rattle.line_step.specs.Step.{Job, kept}
 use Rattle.call.specs.Chunk as Chunk
 use Rattle.print.specs.Print.{over}
 use Rattle.job.specs.declared.Saved.{Saved}
-use Rattle.job.specs.declared.parts.Frames.{Frames}
 use Rattle.job.specs.declared.parts.Again.{Again}
 
 -- where in a file a job goes on
@@ -59,13 +58,10 @@ part t b p most input out = taken p most input out (Chunk.part t (going b p) mos
 
 -- ---- what is asked for
 
-unfoldable pub no_number : Frames
-no_number = record { good = false; most = 0 }
-
 -- the number of the digits n and then l, in 32 bits: the greatest of these asks for all, since no call has as many
-unfoldable pub digits : ℕ → List ℕ → Frames
-digits n [] = record { good = true; most = n }
-digits n (b ∷ l) = cond (nat_le 48 b && nat_le b 57) (digits (min (10 * n + (b - 48)) 4294967295) l) no_number
+unfoldable pub digits : ℕ → List ℕ → Option ℕ
+digits n [] = Some n
+digits n (b ∷ l) = cond (nat_le 48 b && nat_le b 57) (digits (min (10 * n + (b - 48)) 4294967295) l) None
 
-unfoldable pub wanted : List ℕ → Frames
-wanted l = cond (length l == 0) no_number (digits 0 l)
+unfoldable pub wanted : List ℕ → Option ℕ
+wanted l = cond (length l == 0) None (digits 0 l)

@@ -4,7 +4,8 @@
 pub mod names;
 pub mod parts;
 
-ghost use Rattle.std.specs.Prelude.{◌≡◌, ◌≤◌, ◌++◌, length, take};
+ghost use Rattle.std.specs.Prelude.{◌≡◌, ◌≤◌, ◌++◌, length, take, IfOk};
+ghost use Rattle.refusal.specs.Refusal.{code, numbered};
 ghost use Rattle.crc32.specs.Crc32.{crc32};
 ghost use Rattle.words.specs.Words.{number_bytes, numbers_bytes};
 ghost use Rattle.job.specs.Job.{state_at, sum_at, file_length, start, widths, head, state_and_counts, pack, fields, counts, place, sum_fits, known, fits, check, Answer, read};
@@ -12,6 +13,7 @@ ghost use Rattle.job.specs.Job.{state_at, sum_at, file_length, start, widths, he
 use count::{Counts, NUMBERS};
 use line::{LONGEST, SHORTEST};
 use print::{FRAME_LEAST, FRAME_ROOM};
+use refusal::Refusal;
 
 // Where a stopped job goes on, beside its state block.
 #[derive(Clone, Copy)]
@@ -25,13 +27,6 @@ pub struct Saved {
     // The CRC-32 of the table file that the job was begun with, and of the bytes of the call that were taken.
     pub tables: u32,
     pub call: u32,
-}
-
-// What is found in a job file: the number of its refusal, or where the job goes on.
-#[derive(Clone, Copy)]
-pub enum Found {
-    Refused(u32),
-    Job(Saved),
 }
 
 // `HDMK`, low byte first.
@@ -58,9 +53,8 @@ pub const LENGTH: usize = SUM_AT + 4;
 pub fn start(tables: u32) -> Saved
     ensures { result ≡ start tables }
 {
-    let counts = count::none();
     Saved {
-        counts,
+        counts: Counts::none(),
         lines: 0,
         at: 0,
         written: 0,
@@ -94,7 +88,7 @@ fn put_state(block: &[i16; 234], c: Counts, out: &mut [u8])
 {
     words::to_bytes(block, &mut out[STATE_AT..COUNTS_AT]);
     let widths = [4usize; NUMBERS];
-    let values = count::numbers(c);
+    let values = c.numbers();
     words::put_numbers(&widths, &values, &mut out[COUNTS_AT..SUM_AT]);
 }
 
@@ -112,9 +106,8 @@ pub fn pack(block: &[i16; 234], p: Saved) -> [u8; LENGTH]
     ensures { result ≡ pack block.now p }
 {
     let mut out = [0u8; LENGTH];
-    let counts = p.counts;
     put_head(p, &mut out);
-    put_state(block, counts, &mut out);
+    put_state(block, p.counts, &mut out);
     put_sum(&mut out);
     out
 }
@@ -137,7 +130,7 @@ fn counts(bytes: &[u8]) -> Counts
     let widths = [4usize; NUMBERS];
     let mut values = [0u64; NUMBERS];
     words::numbers(&widths, &bytes[COUNTS_AT..SUM_AT], &mut values);
-    count::of_numbers(values)
+    Counts::of_numbers(values)
 }
 
 // The place in a job file.
@@ -145,10 +138,9 @@ fn place(bytes: &[u8]) -> Saved
     requires { length bytes.now ≡ file_length }
     ensures { result ≡ place bytes.now }
 {
-    let counts = counts(bytes);
     let values = fields(bytes);
     Saved {
-        counts,
+        counts: counts(bytes),
         lines: values[6] as u32,
         at: values[2],
         written: values[3],
@@ -180,46 +172,45 @@ fn fits(p: Saved) -> bool
     let most = (LONGEST as u64 + 1) * lines;
     let least_out = (FRAME_LEAST as u64) * lines;
     let most_out = (FRAME_ROOM as u64) * lines;
-    count::fits(c)
-        & (count::frames_are(p.lines, c)
+    c.fits()
+        & (c.frames_are(p.lines)
             & ((least <= p.at)
                 & ((p.at <= most) & ((least_out <= p.written) & (p.written <= most_out)))))
 }
 
-// Whether a job file can be used with tables of this CRC-32: 0; 3 where it has not 536 bytes; 22 where its check sum or its numbers don't fit; 25 where it has another form or
+// The place in a job file, where it can be used with tables of this CRC-32; 3 where it has not 536 bytes; 22 where its check sum or its numbers don't fit; 25 where it has another form or
 // version; 23 where it was begun with other tables; 4 where its predictor or its delay is out of range.
-fn check(bytes: &[u8], tables: u32) -> u32
-    ensures { result ≡ check bytes.now tables }
+fn check(bytes: &[u8], tables: u32) -> Result<Saved, Refusal>
+    ensures number { code result ≡ check bytes.now tables }
+    ensures place { IfOk result (λ p. p ≡ place bytes.now) }
 {
     if bytes.len() != LENGTH {
-        return 3;
+        return Err(Refusal::StateLength);
     }
     if !sum_fits(bytes) {
-        return 22;
+        return Err(Refusal::Damaged);
     }
     if !known(bytes) {
-        return 25;
+        return Err(Refusal::OtherVersion);
     }
     let p = place(bytes);
     if !fits(p) {
-        return 22;
+        return Err(Refusal::Damaged);
     }
     if p.tables != tables {
-        return 23;
+        return Err(Refusal::OtherTables);
     }
     let mut block = [0i16; 234];
     words::from_bytes(&bytes[STATE_AT..COUNTS_AT], &mut block);
-    state::state_check(&block)
+    state::state_check(&block)?;
+    Ok(p)
 }
 
 // Reads a job file, with tables of this CRC-32 at hand: where the job goes on, and the state block written; or why it is refused, and the block as it was.
-pub fn read(bytes: &[u8], tables: u32, block: &mut [i16; 234]) -> Found
-    ensures { Answer.answer result block.new ≡ read bytes.now tables block.old }
+pub fn read(bytes: &[u8], tables: u32, block: &mut [i16; 234]) -> Result<Saved, Refusal>
+    ensures { Answer.answer (numbered result) block.new ≡ read bytes.now tables block.old }
 {
-    let code = check(bytes, tables);
-    if code != 0 {
-        return Found::Refused(code);
-    }
+    let place = check(bytes, tables)?;
     words::from_bytes(&bytes[STATE_AT..COUNTS_AT], block);
-    Found::Job(place(bytes))
+    Ok(place)
 }

@@ -1,12 +1,14 @@
 // A resumed call, a part at a time: whether it is the job's call, where it is read from and its forms go, how many lines a part has, and what is asked for. The files are the program's.
 ghost use Rattle.std.specs.Prelude.{◌≡◌, ◌+◌, ◌-◌, ◌*◌, ◌≤◌, min, length};
+ghost use Rattle.refusal.specs.Refusal.{code};
 ghost use Rattle.job.specs.Part.{position, read_again, call_check, progress, Answer, part, wanted};
 
 use crate::Saved;
 use line_step::Progress;
+use refusal::Refusal;
 
-// A part's answer: 0 while the call goes on, else the number of the refusal that ended it; where the job goes on behind the lines taken, how many bytes they print, and how many
-// lines may follow.
+// A part's answer, with the code of line_step's Progress: 0 while the call goes on, else the number of the refusal that ended it; where the job goes on behind the lines taken,
+// how many bytes they print, and how many lines may follow.
 #[derive(Clone, Copy)]
 pub struct Decoded {
     pub code: u32,
@@ -22,13 +24,6 @@ pub struct Again {
     pub left: u64,
 }
 
-// The number of frames that is asked for; not good where it is no decimal number.
-#[derive(Clone, Copy)]
-pub struct Frames {
-    pub good: bool,
-    pub most: u32,
-}
-
 // No call has as many frames.
 pub const ALL: u32 = 4294967295;
 
@@ -39,54 +34,40 @@ pub const ROOM: usize = 1000 * print::FRAME_ROOM;
 pub fn position(at: u64) -> i64
     ensures { result ≡ position at }
 {
-    if at < 9223372036854775807 {
-        at as i64
-    } else {
-        9223372036854775807
-    }
-}
-
-// The lesser of two lengths.
-fn lesser(a: u64, b: usize) -> usize
-    ensures { (result ≡ min a b) × ((result ≤ a) × (result ≤ b)) }
-{
-    if a < b as u64 { a as usize } else { b }
+    at.min(9223372036854775807) as i64
 }
 
 // One read more of the call, from its beginning on.
 pub fn read_again(a: Again, bytes: &[u8]) -> Again
     ensures { result ≡ read_again a bytes.now }
 {
-    let n = lesser(a.left, bytes.len());
-    let sum = crc32::more(a.sum, &bytes[0..n]);
+    let n = a.left.min(bytes.len() as u64);
     Again {
-        sum,
-        left: a.left - n as u64,
+        sum: crc32::more(a.sum, &bytes[0..n as usize]),
+        left: a.left - n,
     }
 }
 
-// Whether this is the call that the job was begun with: 0; 26 where it is shorter than what was taken of that, or has other bytes there.
-pub fn call_check(p: Saved, a: Again) -> u32
-    ensures { result ≡ call_check p a }
+// Whether this is the call that the job was begun with; 26 where it is shorter than what was taken of that, or has other bytes there.
+pub fn call_check(p: Saved, a: Again) -> Result<(), Refusal>
+    ensures { code result ≡ call_check p a }
 {
-    if a.left != 0 {
-        return 26;
+    let same = (a.left == 0) & (a.sum == p.call);
+    if same {
+        Ok(())
+    } else {
+        Err(Refusal::OtherCall)
     }
-    if a.sum != p.call {
-        return 26;
-    }
-    0
 }
 
 // How far the call of a job is, with this code.
 pub fn progress_of(p: Saved, code: u32) -> Progress
     ensures { result ≡ progress p code }
 {
-    let counts = p.counts;
     Progress {
         code,
         lines: p.lines,
-        counts,
+        counts: p.counts,
     }
 }
 
@@ -100,22 +81,19 @@ pub fn part(t: &[i16], b: &mut [i16], p: Saved, most: u32, input: &[u8], out: &m
     let job = taken.job;
     let used = taken.used;
     let written = taken.written;
-    let counts = job.counts;
-    let call = crc32::more(p.call, &input[0..used]);
     let place = Saved {
-        counts,
+        counts: job.counts,
         lines: job.lines,
-        at: std::num::wrapping_add_u64(p.at, used as u64),
-        written: std::num::wrapping_add_u64(p.written, written as u64),
-        tables: p.tables,
-        call,
+        at: p.at.wrapping_add(used as u64),
+        written: p.written.wrapping_add(written as u64),
+        call: crc32::more(p.call, &input[0..used]),
+        ..p
     };
-    let left = most - (job.lines - p.lines);
     Decoded {
         code: job.code,
         place,
         written,
-        left,
+        left: most - (job.lines - p.lines),
     }
 }
 
@@ -124,41 +102,22 @@ fn further(n: u32, b: u8) -> u32
     requires { 48 ≤ b }
     ensures { result ≡ min (10 * n + (b - 48)) 4294967295 }
 {
-    let m = 10 * (n as u64) + (b - 48) as u64;
-    if m < ALL as u64 { m as u32 } else { ALL }
+    n.saturating_mul(10).saturating_add(u32::from(b - 48))
 }
 
-// The number of frames that is asked for, ALL at most; not good where it is no decimal number.
-pub fn wanted(text: &[u8]) -> Frames
+// The number of frames that is asked for, ALL at most; none where it is no decimal number.
+pub fn wanted(text: &[u8]) -> Option<u32>
     ensures { result ≡ wanted text.now }
 {
-    if text.len() == 0 {
-        return Frames {
-            good: false,
-            most: 0,
-        };
+    if text.is_empty() {
+        return None;
     }
     let mut n = 0u32;
-    let mut i = 0;
-    while i < text.len() {
-        let b = text[i];
-        if b < 48 {
-            return Frames {
-                good: false,
-                most: 0,
-            };
+    for b in text {
+        if !b.is_ascii_digit() {
+            return None;
         }
-        if 57 < b {
-            return Frames {
-                good: false,
-                most: 0,
-            };
-        }
-        n = further(n, b);
-        i += 1;
+        n = further(n, *b);
     }
-    Frames {
-        good: true,
-        most: n,
-    }
+    Some(n)
 }

@@ -1,7 +1,6 @@
 -- What the proofs use of a part's definition, and of when a state is due. Assumes nothing.
-use Rattle.std.specs.Prelude.{◌≡◌, ℕ, ◌+◌, ◌-◌, ◌%◌, ◌^◌, ◌<◌, ◌≤◌, Bool, false, List, [], length, take, ℤ}
+use Rattle.std.specs.Prelude.{◌≡◌, ℕ, ◌+◌, ◌%◌, ◌^◌, ◌<◌, ◌≤◌, Bool, false, List, [], length, take, ℤ}
 use Rattle.std.proofs.Common.{◌∙◌, sym, leb-false, length-take-le}
-use Rattle.std.proofs.Math.Nat.{sub-zero}
 use Rattle.call.specs.Chunk as Chunk
 use Rattle.job.specs.declared.Saved.{Saved}
 use Rattle.job.specs.Part.{going, after, taken, part}
@@ -24,5 +23,5 @@ part_written t b b' p place most code written left input out v e =
     rw (h, w)
 
 -- forms of n bytes, put behind the others, end where the place behind them says
-pub put_behind : (d a q w n : ℕ) (l : List ℕ) → d ≡ (a + length (take (n - 0) l)) % 2 ^ 64 → a ≡ q → n ≤ length l → w ≡ (q + n) % 2 ^ 64 → d ≡ w
-put_behind d a q w n l e f h g = rw (e, f, g, sub-zero, length-take-le n l h)
+pub put_behind : (d a q w n : ℕ) (l : List ℕ) → d ≡ (a + length (take n l)) % 2 ^ 64 → a ≡ q → n ≤ length l → w ≡ (q + n) % 2 ^ 64 → d ≡ w
+put_behind d a q w n l e f h g = rw (e, f, g, length-take-le n l h)

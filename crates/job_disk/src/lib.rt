@@ -4,15 +4,15 @@
 
 mod disk;
 
-ghost use Rattle.std.specs.Prelude.{◌≡◌, ◌<◌, ◌≤◌, true, length};
+ghost use Rattle.std.specs.Prelude.{◌≡◌, IfOk, IfSome};
 ghost use Rattle.std.specs.Io.{ReadsAtMost};
-ghost use Rattle.print.specs.Print.{form_room};
 ghost use Rattle.job.specs.Part.{position};
 ghost use Rattle.job_disk.specs.Disk.{Kept, Between};
 
 use disk::Disk;
 pub use disk::{begin, sync_folder};
-use job::parts::ROOM;
+use files::{Told, or_tell};
+use job::parts::{Decoded, ROOM};
 use job::{Saved, parts};
 use line_step::Progress;
 use print::FORM_ROOM;
@@ -20,224 +20,161 @@ use std::fs::File;
 use std::io;
 use std::os::unix::fs::FileExt;
 
-// The open call and the open OUT.
+// A job's open call and open OUT, and the names of STATE and OUT.
 #[derive(Clone, Copy)]
-struct Fds<'a> {
-    call: &'a File,
-    out: &'a File,
+pub struct Files<'a> {
+    pub call: &'a File,
+    pub out: &'a File,
+    pub state: &'a [u8],
+    pub out_name: &'a [u8],
 }
 
-// Between two parts: the place in the call, the files, how many frames may follow, and whether to go on.
+// Between two parts: the place in the call, the files, and how many frames may follow.
 #[derive(Clone, Copy)]
 struct Todo {
     place: Saved,
     disk: Disk,
     left: u32,
-    more: bool,
 }
 
-// What was read of the call: how many bytes, and whether it could be read.
-#[derive(Clone, Copy)]
-struct Text {
-    n: usize,
-    good: bool,
-}
-
-// Where no whole line is left: how far the call is, and how many bytes stand behind what was read of it, 1 at most; none where it can't be read.
-#[derive(Clone, Copy)]
-struct Ending {
-    job: Progress,
-    behind: Option<usize>,
-}
-
-// A part: 0 or the number of the refusal that ended it, the place behind it, the files, how many frames may follow, and whether it has one.
+// A part that was decoded, and the files behind its forms.
 #[derive(Clone, Copy)]
 struct Done {
-    code: u32,
-    place: Saved,
+    part: Decoded,
     disk: Disk,
-    left: u32,
-    some: bool,
 }
 
-// Writes a call's last form, the first n bytes, to OUT behind its first `at`, and to standard output. What stood behind it in OUT is cut off.
-fn put_form(
-    rt: &HostRuntime,
-    form: &[u8; FORM_ROOM],
-    n: usize,
-    at: u64,
-    d: Disk,
-    out: &File,
-    name: &[u8],
-)
-    requires { (at ≡ d.written) × (n ≤ form_room) }
+// Writes a call's last form to OUT behind its first `at` bytes, and to standard output. What stood behind it in OUT is cut off.
+fn put_form(rt: &HostRuntime, form: &[u8], at: u64, d: Disk, f: Files<'_>) -> Result<(), Told>
+    requires { at ≡ d.written }
 {
-    let text: &[u8] = form;
-    let last = disk::put(rt, d, out, &text[0..n], at, name);
-    if last.good {
-        if disk::cut(rt, last, out, last.written, name) {
-            files::print(rt, form, n);
-        }
-    }
+    let last = disk::put(rt, d, f, form, at)?;
+    disk::cut(rt, last, f, last.written)?;
+    files::print(rt, form);
+    Ok(())
 }
 
 // The last form of a call, behind the first `at` bytes of OUT.
-fn put_last(rt: &HostRuntime, job: Progress, held: &[u8], at: u64, d: Disk, out: &File, name: &[u8])
+fn put_last(
+    rt: &HostRuntime,
+    job: Progress,
+    held: &[u8],
+    at: u64,
+    d: Disk,
+    f: Files<'_>,
+) -> Result<(), Told>
     requires { at ≡ d.written }
 {
     let mut form = [0u8; FORM_ROOM];
     let n = call::finish(job, held, &mut form);
-    put_form(rt, &form, n, at, d, out, name);
+    put_form(rt, &form[..n], at, d, f)
 }
 
 // The last form of a call that ends at this place, when its state is saved.
-fn finish(rt: &HostRuntime, job: Progress, held: &[u8], p: Saved, d: Disk, out: &File, name: &[u8])
-    requires { (d.good ≡ true) × Kept p d }
+fn finish(
+    rt: &HostRuntime,
+    job: Progress,
+    held: &[u8],
+    p: Saved,
+    d: Disk,
+    f: Files<'_>,
+) -> Result<(), Told>
+    requires { Kept p d }
 {
-    put_last(rt, job, held, p.written, d, out, name);
+    put_last(rt, job, held, p.written, d, f)
 }
 
 // A line of a part is refused. No state is saved, so that the refusal is found again.
-fn refuse(rt: &HostRuntime, p: Saved, code: u32, d: Disk, out: &File, name: &[u8])
+fn refuse(rt: &HostRuntime, p: Saved, code: u32, d: Disk, f: Files<'_>) -> Result<(), Told>
     requires { d.written ≡ p.written }
 {
-    put_last(
-        rt,
-        parts::progress_of(p, code),
-        b"",
-        p.written,
-        d,
-        out,
-        name,
-    );
+    put_last(rt, parts::progress_of(p, code), b"", p.written, d, f)
 }
 
 // Says where the job stopped, when its state is saved.
 fn print_saved(rt: &HostRuntime, p: Saved, d: Disk)
-    requires { (d.good ≡ true) × Kept p d }
+    requires { Kept p d }
 {
     let counts = p.counts;
     let mut form = [0u8; FORM_ROOM];
     let n = print::saved(counts, &mut form);
-    files::print(rt, &form, n);
+    files::print(rt, &form[..n]);
 }
 
 // As many frames are done as were asked for: OUT ends with the last of them.
-fn stop(rt: &HostRuntime, p: Saved, d: Disk, out: &File, name: &[u8])
-    requires { (d.good ≡ true) × Kept p d }
-{
-    if disk::cut(rt, d, out, p.written, name) {
-        print_saved(rt, p, d);
-    }
-}
-
-// The job doesn't go on.
-fn ended(r: Todo) -> Todo
-    requires { Between r }
-    ensures { Between result }
-{
-    let place = r.place;
-    let disk = r.disk;
-    Todo {
-        place,
-        disk,
-        left: r.left,
-        more: false,
-    }
-}
-
-// Behind a state that was saved.
-fn kept(p: Saved, d: Disk, left: u32) -> Todo
+fn stop(rt: &HostRuntime, p: Saved, d: Disk, f: Files<'_>) -> Result<(), Told>
     requires { Kept p d }
-    ensures { Between result }
 {
-    Todo {
-        place: p,
-        disk: d,
-        left,
-        more: d.good & (0 < left),
-    }
+    disk::cut(rt, d, f, p.written)?;
+    print_saved(rt, p, d);
+    Ok(())
 }
 
-// Behind a part of frames: the state is saved where as many frames are done as were asked for, or where it is due.
+// Behind a part of frames: the state is saved where as many frames are done as were asked for, which ends the job, or where it is due.
 fn behind(
     rt: &HostRuntime,
     b: &[i16; 234],
     p: Saved,
     d: Disk,
     left: u32,
-    out: &File,
-    state: &[u8],
-    name: &[u8],
-) -> Todo
+    f: Files<'_>,
+) -> Result<Option<Todo>, Told>
     requires { d.written ≡ p.written }
-    ensures { Between result }
+    ensures { IfOk result (λ r. IfSome r Between) }
 {
     if left == 0 {
-        let k = disk::keep(rt, d, b, p, out, state, name);
-        if k.good {
-            stop(rt, p, k, out, name);
-        }
-        return kept(p, k, 0);
+        let k = disk::keep(rt, d, b, p, f)?;
+        stop(rt, p, k, f)?;
+        return Ok(None);
     }
     if job_step::due(p, d.saved) {
-        let k = disk::keep(rt, d, b, p, out, state, name);
-        return kept(p, k, left);
+        let k = disk::keep(rt, d, b, p, f)?;
+        return Ok(Some(Todo {
+            place: p,
+            disk: k,
+            left,
+        }));
     }
-    Todo {
+    Ok(Some(Todo {
         place: p,
         disk: d,
         left,
-        more: true,
-    }
+    }))
 }
 
 // The call ends at the place, or the line there is refused: the state is saved, then the last form is written.
 fn last(
     rt: &HostRuntime,
     b: &[i16; 234],
-    p: Saved,
-    d: Disk,
+    r: Todo,
     job: Progress,
     held: &[u8],
-    out: &File,
-    state: &[u8],
-    name: &[u8],
-)
-    requires { d.written ≡ p.written }
+    f: Files<'_>,
+) -> Result<(), Told>
+    requires { Between r }
 {
-    let k = disk::keep(rt, d, b, p, out, state, name);
-    if k.good {
-        finish(rt, job, held, p, k, out, name);
-    }
+    let k = disk::keep(rt, r.disk, b, r.place, f)?;
+    finish(rt, job, held, r.place, k, f)
 }
 
-// How many bytes of the call stand behind these, 1 at most; none, with a message, where it can't be read.
-fn more_of(rt: &HostRuntime, p: Saved, held: &[u8], call: &File) -> Option<usize> {
+// How many bytes of the call stand behind these, 1 at most; with a message where it can't be read.
+fn more_of(rt: &HostRuntime, p: Saved, held: &[u8], call: &File) -> Result<usize, Told> {
     let mut next = [0u8; 1];
     let behind = std::num::wrapping_add_u64(p.at, held.len() as u64);
-    match call.read_at(&mut next, parts::position(behind).cast_unsigned()) {
-        Ok(n) => Some(n),
-        Err(e) => {
-            files::fail(rt, b"CALL", e);
-            None
-        }
-    }
+    or_tell(
+        rt,
+        b"CALL",
+        call.read_at(&mut next, parts::position(behind).cast_unsigned()),
+    )
 }
 
-// No whole line stands at the place: a line is too long, or the call ends there unless there are bytes behind these.
-fn at_end(rt: &HostRuntime, p: Saved, held: &[u8], call: &File) -> Ending {
+// No whole line stands at the place: how far the call is where a line is too long or the call ends there; none where there are bytes behind these.
+fn at_end(rt: &HostRuntime, p: Saved, held: &[u8], call: &File) -> Result<Option<Progress>, Told> {
     let job = call::overlong(parts::progress_of(p, 0), held);
-    if job.code != 0 {
-        return Ending {
-            job,
-            behind: Some(0),
-        };
+    if job.code != 0 || more_of(rt, p, held, call)? == 0 {
+        return Ok(Some(job));
     }
-    Ending {
-        job,
-        behind: more_of(rt, p, held, call),
-    }
+    Ok(None)
 }
 
 // The job ends there, or goes on where the text does.
@@ -246,23 +183,16 @@ fn end(
     b: &[i16; 234],
     r: Todo,
     held: &[u8],
-    f: Fds<'_>,
-    state: &[u8],
-    name: &[u8],
-) -> Todo
+    f: Files<'_>,
+) -> Result<Option<Todo>, Told>
     requires { Between r }
-    ensures { Between result }
+    ensures { IfOk result (λ r. IfSome r Between) }
 {
-    let place = r.place;
-    let ending = at_end(rt, place, held, f.call);
-    match ending.behind {
-        Some(0) => {
-            last(rt, b, place, r.disk, ending.job, held, f.out, state, name);
-            ended(r)
-        }
-        Some(_) => r,
-        None => ended(r),
-    }
+    let Some(job) = at_end(rt, r.place, held, f.call)? else {
+        return Ok(Some(r));
+    };
+    last(rt, b, r, job, held, f)?;
+    Ok(None)
 }
 
 // Decodes a part of the text and writes its forms.
@@ -271,54 +201,40 @@ fn decode(
     t: &[i16; 1880],
     b: &mut [i16; 234],
     r: Todo,
-    out: &File,
-    name: &[u8],
+    f: Files<'_>,
     input: &[u8],
     forms: &mut [u8],
-) -> Done
+) -> Result<Done, Told>
     requires { Between r }
-    ensures { result.disk.written ≡ result.place.written }
+    ensures { IfOk result (λ done. done.disk.written ≡ done.part.place.written) }
 {
     let part = parts::part(t, b, r.place, r.left, input, forms);
     let written = part.written;
-    let disk = disk::put(rt, r.disk, out, &forms[0..written], r.place.written, name);
-    let place = part.place;
-    Done {
-        code: part.code,
-        place,
-        disk,
-        left: part.left,
-        some: 0 < written,
-    }
+    let disk = disk::put(rt, r.disk, f, &forms[..written], r.place.written)?;
+    Ok(Done { part, disk })
 }
 
-// Behind a part: no more where a file could not be written or a line is refused.
+// Behind a part: no more where a line is refused.
 fn settle(
     rt: &HostRuntime,
     b: &[i16; 234],
     r: Todo,
     done: Done,
     held: &[u8],
-    f: Fds<'_>,
-    state: &[u8],
-    name: &[u8],
-) -> Todo
-    requires { Between r × (done.disk.written ≡ done.place.written) }
-    ensures { Between result }
+    f: Files<'_>,
+) -> Result<Option<Todo>, Told>
+    requires { Between r × (done.disk.written ≡ done.part.place.written) }
+    ensures { IfOk result (λ r. IfSome r Between) }
 {
-    let place = done.place;
-    let d = done.disk;
-    if !d.good {
-        return ended(r);
+    let part = done.part;
+    if part.code != 0 {
+        refuse(rt, part.place, part.code, done.disk, f)?;
+        return Ok(None);
     }
-    if done.code != 0 {
-        refuse(rt, place, done.code, d, f.out, name);
-        return ended(r);
+    if 0 < part.written {
+        return behind(rt, b, part.place, done.disk, part.left, f);
     }
-    if done.some {
-        return behind(rt, b, place, d, done.left, f.out, state, name);
-    }
-    end(rt, b, r, held, f, state, name)
+    end(rt, b, r, held, f)
 }
 
 // The call's text from a place on.
@@ -329,50 +245,30 @@ fn read_at(call: &File, input: &mut [u8], to: i64, p: Saved) -> io::Result<usize
     call.read_at(input, to.cast_unsigned())
 }
 
-// The same: how many bytes; not good, with a message, where it can't be read.
-fn read_on(rt: &HostRuntime, call: &File, p: Saved, input: &mut [u8]) -> Text
-    ensures { result.n ≤ length input.new }
+// The same: how many bytes; with a message where it can't be read.
+fn read_on(rt: &HostRuntime, call: &File, p: Saved, input: &mut [u8]) -> Result<usize, Told>
+    ensures { ReadsAtMost result input.new }
 {
-    match read_at(call, input, parts::position(p.at), p) {
-        Ok(n) => Text { n, good: true },
-        Err(e) => {
-            files::fail(rt, b"CALL", e);
-            Text { n: 0, good: false }
-        }
-    }
+    or_tell(rt, b"CALL", read_at(call, input, parts::position(p.at), p))
 }
 
-// One part: the text from the place on is read and decoded.
+// One part: the text from the place on is read and decoded. None where the job doesn't go on.
 fn step(
     rt: &HostRuntime,
     t: &[i16; 1880],
     b: &mut [i16; 234],
     r: Todo,
-    f: Fds<'_>,
-    state: &[u8],
-    name: &[u8],
+    f: Files<'_>,
     input: &mut [u8],
     forms: &mut [u8],
-) -> Todo
+) -> Result<Option<Todo>, Told>
     requires { Between r }
-    ensures { Between result }
+    ensures { IfOk result (λ r. IfSome r Between) }
 {
-    let text = read_on(rt, f.call, r.place, input);
-    if !text.good {
-        return ended(r);
-    }
-    let n = text.n;
-    let held = &input[0..n];
-    let done = decode(rt, t, b, r, f.out, name, held, forms);
-    settle(rt, b, r, done, held, f, state, name)
-}
-
-// How many turns may follow.
-fn rest(most: u32, more: bool) -> u32
-    requires { 0 < most }
-    ensures { result < most }
-{
-    if more { most - 1 } else { 0 }
+    let n = read_on(rt, f.call, r.place, input)?;
+    let held = &input[..n];
+    let done = decode(rt, t, b, r, f, held, forms)?;
+    settle(rt, b, r, done, held, f)
 }
 
 // Goes on with a job whose state is saved, for at most so many frames, from the open call to the open OUT, which has what the state counts. There are fewer than 2^32 parts: each has a
@@ -383,25 +279,24 @@ pub fn run(
     b: &mut [i16; 234],
     p: Saved,
     most: u32,
-    call: &File,
-    out: &File,
-    state: &[u8],
-    name: &[u8],
+    f: Files<'_>,
 ) {
     let d = disk::at(p);
     if most == 0 {
         print_saved(rt, p, d);
         return;
     }
-    let f = Fds { call, out };
-    let mut input_buffer = [0u8; 65536];
-    let mut forms_buffer = [0u8; ROOM];
-    let input: &mut [u8] = &mut input_buffer;
-    let forms: &mut [u8] = &mut forms_buffer;
-    let mut r = kept(p, d, most);
-    let mut turns = 4294967295u32;
-    while 0 < turns {
-        r = step(rt, t, b, r, f, state, name, input, forms);
-        turns = rest(turns, r.more);
+    let mut input = [0u8; 65536];
+    let mut forms = [0u8; ROOM];
+    let mut r = Todo {
+        place: p,
+        disk: d,
+        left: most,
+    };
+    for _ in 0..u32::MAX {
+        let Ok(Some(next)) = step(rt, t, b, r, f, &mut input, &mut forms) else {
+            break;
+        };
+        r = next;
     }
 }

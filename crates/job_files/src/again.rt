@@ -4,8 +4,10 @@ ghost use Rattle.std.specs.Io.{ReadsAtMost};
 ghost use Rattle.job.specs.Part.{position};
 ghost use Rattle.job_files.specs.Reads.{Reads};
 
+use files::{Told, or_tell};
 use job::parts;
 use job::parts::Again;
+use refusal::Refusal;
 use std::fs::File;
 use std::io;
 use std::os::unix::fs::FileExt;
@@ -41,15 +43,7 @@ fn read_more(call: &File, at: u64, a: Again, input: &mut [u8]) -> Again
 {
     let got = read_at(call, input, place(a, at), a, at);
     let n = got.unwrap_or(0);
-    count(a, at, &input[0..n])
-}
-
-// The same on a whole buffer.
-fn read_turn(call: &File, at: u64, a: Again, input: &mut [u8; 65536]) -> Again
-    requires { Reads at a }
-    ensures { Reads at result }
-{
-    read_more(call, at, a, input)
+    count(a, at, &input[..n])
 }
 
 // The bytes of the call that were taken, read again until they are all there or nothing more is read.
@@ -59,33 +53,35 @@ pub(crate) fn taken(call: &File, at: u64) -> Again
     let mut input = [0u8; 65536];
     let mut a = Again { sum: 0, left: at };
     let mut before = 18446744073709551615u64;
+    // No `for`: a read gives any number of bytes.
     while a.left < before {
         before = a.left;
-        a = read_turn(call, at, a, &mut input);
+        a = read_more(call, at, a, &mut input);
     }
     a
 }
 
-// Whether the call can be read behind the bytes that were read again, or ends there.
-pub(crate) fn readable(rt: &HostRuntime, call: &File, at: u64, a: Again, name: &[u8]) -> bool
+// The call can be read behind the bytes that were read again, or ends there.
+pub(crate) fn readable(
+    rt: &HostRuntime,
+    call: &File,
+    at: u64,
+    a: Again,
+    name: &[u8],
+) -> Result<(), Told>
     requires { Reads at a }
 {
     let mut next = [0u8; 1];
-    match read_at(call, &mut next, place(a, at), a, at) {
-        Ok(_) => true,
-        Err(e) => {
-            files::fail(rt, name, e);
-            false
-        }
-    }
+    or_tell(rt, name, read_at(call, &mut next, place(a, at), a, at))?;
+    Ok(())
 }
 
 // Another call than the one that the job was begun with.
-pub(crate) fn refuse(rt: &HostRuntime, code: u32, name: &[u8]) {
+pub(crate) fn refuse(rt: &HostRuntime, r: Refusal, name: &[u8]) -> Told {
     files::refuse(
         rt,
-        code,
+        r.number(),
         name,
         b"another call than the one that this job was begun with, or shorter: take the right CALL",
-    );
+    )
 }

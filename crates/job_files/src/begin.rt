@@ -1,8 +1,10 @@
 // The state file, and what an earlier run may have left beside it.
 ghost use Rattle.std.specs.Io.{ReadsAtMost};
 
-use files::Seen;
-use job::{Found, Saved};
+use crate::names::Named;
+use files::{Told, or_tell};
+use job::Saved;
+use refusal::Refusal;
 use std::fs::File;
 use std::io;
 use std::io::{ErrorKind, Read};
@@ -10,89 +12,46 @@ use std::io::{ErrorKind, Read};
 // One byte more than a state file has, so that a longer one is seen to be longer.
 const MORE: usize = job::LENGTH + 1;
 
-// Where the job goes on, and whether it is a new one; not good where it is refused.
+// Where the job goes on, and whether it is a new one.
 #[derive(Clone, Copy)]
 pub(crate) struct Begun {
     pub place: Saved,
     pub fresh: bool,
-    pub good: bool,
 }
 
-// A job that can't go on.
-fn none(tables: u32) -> Begun {
-    Begun {
-        place: job::start(tables),
-        fresh: false,
-        good: false,
-    }
-}
-
-// A state file that can't be used.
-fn refuse(rt: &HostRuntime, name: &[u8], code: u32) {
-    if code == 3 {
-        files::refuse(
-            rt,
-            code,
-            name,
-            b"not 536 bytes, so no state file, one that was cut short, or one of an older form (488, 492, 516): take the right one, go on with the version that saved it, or move it away and begin anew",
-        );
-    } else if code == 22 {
-        files::refuse(
-            rt,
-            code,
-            name,
-            b"damaged, its check sum or its numbers don't fit: take another copy, or move it away and begin anew",
-        );
-    } else if code == 25 {
-        files::refuse(
-            rt,
-            code,
-            name,
-            b"saved by another version: go on with that one, or move it away and begin anew",
-        );
-    } else if code == 23 {
-        files::refuse(
-            rt,
-            code,
-            name,
-            b"begun with other tables: name the table file that it was begun with",
-        );
-    } else {
-        files::refuse(
-            rt,
-            code,
-            name,
-            b"its predictor or its delay is out of range: move it away and begin anew",
-        );
+// Why a state file can't be used.
+fn why(r: Refusal) -> &'static [u8] {
+    match r {
+        Refusal::StateLength => {
+            b"not 536 bytes, so no state file, one that was cut short, or one of an older form (488, 492, 516): take the right one, go on with the version that saved it, or move it away and begin anew"
+        }
+        Refusal::Damaged => {
+            b"damaged, its check sum or its numbers don't fit: take another copy, or move it away and begin anew"
+        }
+        Refusal::OtherVersion => {
+            b"saved by another version: go on with that one, or move it away and begin anew"
+        }
+        Refusal::OtherTables => {
+            b"begun with other tables: name the table file that it was begun with"
+        }
+        _ => b"its predictor or its delay is out of range: move it away and begin anew",
     }
 }
 
 // The bytes of a state file, for tables of this CRC-32.
-fn read(rt: &HostRuntime, name: &[u8], bytes: &[u8], tables: u32, b: &mut [i16; 234]) -> Begun {
-    let found = job::read(bytes, tables, b);
-    match found {
-        Found::Refused(code) => {
-            refuse(rt, name, code);
-            none(tables)
-        }
-        Found::Job(place) => Begun {
+fn read(
+    rt: &HostRuntime,
+    name: &[u8],
+    bytes: &[u8],
+    tables: u32,
+    b: &mut [i16; 234],
+) -> Result<Begun, Told> {
+    match job::read(bytes, tables, b) {
+        Ok(place) => Ok(Begun {
             place,
             fresh: false,
-            good: true,
-        },
-    }
-}
-
-// No state file: a new job, if it is missing.
-fn fresh(rt: &HostRuntime, name: &[u8], tables: u32, why: io::Error) -> Begun {
-    if why.kind() != ErrorKind::NotFound {
-        files::fail(rt, name, why);
-        return none(tables);
-    }
-    Begun {
-        place: job::start(tables),
-        fresh: true,
-        good: true,
+        }),
+        Err(r) => Err(files::refuse(rt, r.number(), name, why(r))),
     }
 }
 
@@ -105,63 +64,69 @@ fn front(file: File, bytes: &mut [u8]) -> io::Result<usize>
 }
 
 // The open state file. It is a file, so one read gets all of it; a read that fails is no short file.
-fn saved(rt: &HostRuntime, from: File, name: &[u8], tables: u32, b: &mut [i16; 234]) -> Begun {
+fn saved(
+    rt: &HostRuntime,
+    from: File,
+    name: &[u8],
+    tables: u32,
+    b: &mut [i16; 234],
+) -> Result<Begun, Told> {
     let mut bytes = [0u8; MORE];
-    match front(from, &mut bytes) {
-        Ok(n) => read(rt, name, &bytes[0..n], tables, b),
-        Err(e) => {
-            files::fail(rt, name, e);
-            none(tables)
-        }
-    }
+    let n = or_tell(rt, name, front(from, &mut bytes))?;
+    read(rt, name, &bytes[..n], tables, b)
 }
 
 // The state file, with its block; where there is none, a new job.
-pub(crate) fn begin(rt: &HostRuntime, name: &[u8], tables: u32, b: &mut [i16; 234]) -> Begun {
+pub(crate) fn begin(
+    rt: &HostRuntime,
+    name: &[u8],
+    tables: u32,
+    b: &mut [i16; 234],
+) -> Result<Begun, Told> {
     match files::open(rt, name) {
         Ok(from) => saved(rt, from, name, tables, b),
-        Err(e) => fresh(rt, name, tables, e),
+        Err(why) if why.kind() == ErrorKind::NotFound => Ok(Begun {
+            place: job::start(tables),
+            fresh: true,
+        }),
+        Err(why) => {
+            files::fail(rt, name, why);
+            Err(Told)
+        }
     }
 }
 
-fn refuse_left(rt: &HostRuntime, name: &[u8]) -> bool {
-    files::refuse(rt, 28, name, b"not left by this program: move it away");
-    false
+fn refuse_left(rt: &HostRuntime, name: &[u8]) -> Result<(), Told> {
+    Err(files::refuse(
+        rt,
+        Refusal::Names.number(),
+        name,
+        b"not left by this program: move it away",
+    ))
 }
 
-// Whether a file of this length, open, is one that this program may have left.
-fn own(rt: &HostRuntime, from: File, name: &[u8], length: u64) -> bool {
+// A file of this length, open, is one that this program may have left.
+fn own(rt: &HostRuntime, from: File, name: &[u8], length: u64) -> Result<(), Told> {
     let mut bytes = [0u8; 4];
-    match front(from, &mut bytes) {
-        Ok(n) => {
-            if !job_step::own_state(&bytes[0..n], length) || (n < 4 && (n as u64) < length) {
-                return refuse_left(rt, name);
-            }
-            true
-        }
-        Err(e) => {
-            files::fail(rt, name, e);
-            false
-        }
+    let n = or_tell(rt, name, front(from, &mut bytes))?;
+    if !job_step::own_state(&bytes[..n], length) || (n < 4 && (n as u64) < length) {
+        return refuse_left(rt, name);
     }
+    Ok(())
 }
 
-// Whether STATE.new, where the next state is written aside, is missing or was left there by this program. It is opened only where it is a file, since a pipe would wait.
-pub(crate) fn left(rt: &HostRuntime, name: &[u8], seen: Seen) -> bool {
+// STATE.new, where the next state is written aside, is missing or was left there by this program. It is opened only where it is a file, since a pipe would wait.
+pub(crate) fn left(rt: &HostRuntime, aside: Named<'_>) -> Result<(), Told> {
+    let name = aside.name;
     if files::is_link(rt, name) {
         return refuse_left(rt, name);
     }
-    if !seen.there {
-        return true;
-    }
-    if !seen.regular {
+    let Ok(known) = aside.seen else {
+        return Ok(());
+    };
+    if !known.regular {
         return refuse_left(rt, name);
     }
-    match files::open(rt, name) {
-        Ok(from) => own(rt, from, name, seen.length),
-        Err(e) => {
-            files::fail(rt, name, e);
-            false
-        }
-    }
+    let from = or_tell(rt, name, files::open(rt, name))?;
+    own(rt, from, name, known.length)
 }

@@ -12,20 +12,15 @@ mod first;
 mod names;
 mod output;
 
+use files::Told;
 use job::Saved;
 use job::parts::Again;
+use job_disk::Files;
 use names::Names;
-use print::FORM_ROOM;
+use output::Job;
 use std::fs::File;
 
-// A refusal of the table file, whose reason `files` says.
-fn refuse_tables(rt: &HostRuntime, code: u32) {
-    let mut form = [0u8; FORM_ROOM];
-    let n = print::refused(code, 0, &mut form);
-    files::print(rt, &form, n);
-}
-
-// OUT opened or made, and the job run, whose call was read again.
+// The job run, whose call was read again.
 fn run(
     rt: &HostRuntime,
     t: &[i16; 1880],
@@ -33,16 +28,11 @@ fn run(
     p: Saved,
     a: Again,
     most: u32,
-    call: &File,
-    state: &[u8],
-    out: &[u8],
-    there: bool,
+    f: Files<'_>,
 )
     requires { Reads p.at a × (call_check p a ≡ 0) }
 {
-    if let Some(file) = output::open(rt, out, there) {
-        job_disk::run(rt, t, b, p, most, call, &file, state, out);
-    }
+    job_disk::run(rt, t, b, p, most, f);
 }
 
 // The job whose call is open. A new job's state is written before OUT is made.
@@ -52,41 +42,43 @@ fn go_on(
     b: &mut [i16; 234],
     tables: u32,
     most: u32,
-    n: Names,
-    from: &File,
-    call: &[u8],
-    state: &[u8],
-    aside: &[u8],
-    out: &[u8],
-) {
-    let s = begin::begin(rt, state, tables, b);
-    if !s.good {
-        return;
-    }
+    n: Names<'_>,
+    call: &File,
+) -> Result<(), Told> {
+    let state = n.state.name;
+    let out_name = n.out.name;
+    let s = begin::begin(rt, state, tables, b)?;
     let place = s.place;
-    if !begin::left(rt, aside, n.aside) {
-        return;
+    begin::left(rt, n.aside)?;
+    let a = again::taken(call, place.at);
+    again::readable(rt, call, place.at, a, n.call.name)?;
+    if let Err(r) = job::parts::call_check(place, a) {
+        return Err(again::refuse(rt, r, n.call.name));
     }
-    let a = again::taken(from, place.at);
-    if !again::readable(rt, from, place.at, a, call) {
-        return;
+    let j = Job {
+        t,
+        b: &*b,
+        place,
+        call,
+        call_name: n.call.name,
+        name: out_name,
+    };
+    j.owns(rt, n.out.seen)?;
+    if s.fresh {
+        job_disk::begin(rt, state, b, tables)?;
     }
-    let code = job::parts::call_check(place, a);
-    if code != 0 {
-        again::refuse(rt, code, call);
-        return;
-    }
-    let o = n.out;
-    if !output::is_out(rt, t, b, place, from, call, out, o) {
-        return;
-    }
-    if s.fresh && !job_disk::begin(rt, state, b, tables) {
-        return;
-    }
-    run(rt, t, b, place, a, most, from, state, out, o.there);
+    let out = output::open(rt, out_name, n.out.seen.is_ok())?;
+    let f = Files {
+        call,
+        out: &out,
+        state,
+        out_name,
+    };
+    run(rt, t, b, place, a, most, f);
+    Ok(())
 }
 
-// The job whose tables are read: the names are looked at, and the call opened.
+// The job whose tables are read: the names are looked at, all of them before one is refused, and the call opened.
 fn open(
     rt: &HostRuntime,
     t: &[i16; 1880],
@@ -98,36 +90,51 @@ fn open(
     state: &[u8],
     aside: &[u8],
     out: &[u8],
-) {
-    let n = names::look(rt, tables, call, state, out, aside);
-    if !n.good {
-        return;
-    }
-    if !names::usable(rt, n, call, state, out, aside) {
-        return;
-    }
-    match files::open(rt, call) {
-        Ok(from) => go_on(rt, t, b, sum, most, n, &from, call, state, aside, out),
-        Err(e) => files::fail(rt, call, e),
-    }
+) -> Result<(), Told> {
+    let tables = names::look(rt, tables);
+    let call = names::look(rt, call);
+    let state = names::look(rt, state);
+    let out = names::look(rt, out);
+    let aside = names::look(rt, aside);
+    let n = Names {
+        tables: tables?,
+        call: call?,
+        state: state?,
+        out: out?,
+        aside: aside?,
+    };
+    n.usable(rt)?;
+    let from = files::or_tell(rt, n.call.name, files::open(rt, n.call.name))?;
+    go_on(rt, t, b, sum, most, n, &from)
 }
 
 // Goes on with the job of the file `state`, or begins one where there is none: at most `most` frames of `call`, to `out`.
 pub fn resume(rt: &HostRuntime, tables: &[u8], call: &[u8], state: &[u8], out: &[u8], most: u32) {
+    let _ = resumed(rt, tables, call, state, out, most);
+}
+
+// The same; where it ends early the reason was told.
+fn resumed(
+    rt: &HostRuntime,
+    tables: &[u8],
+    call: &[u8],
+    state: &[u8],
+    out: &[u8],
+    most: u32,
+) -> Result<(), Told> {
     let mut t = [0i16; 1880];
     let mut b = [0i16; 234];
     let checked = files::tables(rt, tables, &mut t, &mut b);
     let sum = checked.sum;
     if checked.code != 0 {
-        refuse_tables(rt, checked.code);
-        return;
+        files::print_refused(rt, checked.code, 0);
+        return Err(Told);
     }
     let mut aside = [0u8; 4096];
-    let n = job::names::aside(state, &mut aside);
-    if n == 0 {
+    let Some(n) = job::names::aside(state, &mut aside) else {
         files::say(rt, state, b"the name is too long for a file beside it");
-        return;
-    }
+        return Err(Told);
+    };
     open(
         rt,
         &t,
@@ -137,7 +144,7 @@ pub fn resume(rt: &HostRuntime, tables: &[u8], call: &[u8], state: &[u8], out: &
         tables,
         call,
         state,
-        &aside[0..n],
+        &aside[..n],
         out,
-    );
+    )
 }

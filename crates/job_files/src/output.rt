@@ -1,163 +1,79 @@
 // OUT: whether it is this job's, and opened for writing.
 use crate::first;
-use files::Seen;
+use files::{Seen, Told, or_tell};
 use job::{Saved, parts};
 use job_step::TAIL_ROOM;
 use print::FRAME_ROOM;
+use refusal::Refusal;
 use std::fs::{File, OpenOptions};
 use std::io;
 use std::os::unix::fs::FileExt;
 
+// A job and its open call, with the names of CALL and OUT.
+#[derive(Clone, Copy)]
+pub(crate) struct Job<'a> {
+    pub t: &'a [i16; 1880],
+    pub b: &'a [i16; 234],
+    pub place: Saved,
+    pub call: &'a File,
+    pub call_name: &'a [u8],
+    pub name: &'a [u8],
+}
+
 // An OUT that isn't this job's.
-fn refuse(rt: &HostRuntime, name: &[u8], code: u32, p: Saved) -> bool {
-    if p.written == 0 {
-        files::refuse(
-            rt,
-            code,
-            name,
-            b"not this call's output, so a new job doesn't write over it: move it away, or name another OUT",
-        );
+fn refuse(rt: &HostRuntime, name: &[u8], r: Refusal, p: Saved) -> Result<(), Told> {
+    let why: &[u8] = if p.written == 0 {
+        b"not this call's output, so a new job doesn't write over it: move it away, or name another OUT"
     } else {
-        files::refuse(
-            rt,
-            code,
-            name,
-            b"not this job's: missing, shorter than what the state has written, or with other samples there; take the OUT that belongs to STATE, or move STATE away and begin anew",
+        b"not this job's: missing, shorter than what the state has written, or with other samples there; take the OUT that belongs to STATE, or move STATE away and begin anew"
+    };
+    Err(files::refuse(rt, r.number(), name, why))
+}
+
+impl Job<'_> {
+    // An OUT of this length, with these first bytes and these at the place where the job goes on, is this job's.
+    fn check(self, rt: &HostRuntime, length: u64, front: &[u8], tail: &[u8]) -> Result<(), Told> {
+        if let Err(r) = job_step::out_check(self.place, self.b, length, front, tail) {
+            return refuse(rt, self.name, r, self.place);
+        }
+        Ok(())
+    }
+
+    // The OUT of a new job, with these first bytes, is what the open call prints. A line is shorter than what it prints, so the first one is read as a whole.
+    fn check_first(self, rt: &HostRuntime, front: &[u8]) -> Result<(), Told> {
+        let mut line = [0u8; FRAME_ROOM];
+        let n = or_tell(rt, self.call_name, self.call.read_at(&mut line, 0))?;
+        if !first::is_of(self.t, self.b, self.place, &line[..n], front) {
+            return refuse(rt, self.name, Refusal::OtherOutput, self.place);
+        }
+        Ok(())
+    }
+
+    // An open OUT of this length is this job's.
+    fn check_open(self, rt: &HostRuntime, out: &File, length: u64) -> Result<(), Told> {
+        let mut front = [0u8; FRAME_ROOM];
+        let mut tail = [0u8; TAIL_ROOM];
+        let first = out.read_at(&mut front, 0);
+        let last = out.read_at(
+            &mut tail,
+            parts::position(job_step::tail_at(self.place)).cast_unsigned(),
         );
-    }
-    false
-}
-
-// Whether an OUT of this length, with these first bytes and these at the place where the job goes on, is this job's.
-fn check(
-    rt: &HostRuntime,
-    name: &[u8],
-    p: Saved,
-    b: &[i16; 234],
-    length: u64,
-    front: &[u8],
-    tail: &[u8],
-) -> bool {
-    let code = job_step::out_check(p, b, length, front, tail);
-    if code != 0 {
-        return refuse(rt, name, code, p);
-    }
-    true
-}
-
-// Whether the OUT of a new job, with these first bytes, is what the open call prints. A line is shorter than what it prints, so the first one is read as a whole.
-fn check_first(
-    rt: &HostRuntime,
-    t: &[i16; 1880],
-    b: &[i16; 234],
-    p: Saved,
-    call: &File,
-    call_name: &[u8],
-    name: &[u8],
-    front: &[u8],
-) -> bool {
-    let mut line = [0u8; FRAME_ROOM];
-    match call.read_at(&mut line, 0) {
-        Ok(n) => {
-            if first::is_of(t, b, p, &line[0..n], front) {
-                return true;
-            }
-            refuse(rt, name, 27, p)
+        let m = or_tell(rt, self.name, last)?;
+        let n = or_tell(rt, self.name, first)?;
+        self.check(rt, length, &front[..n], &tail[..m])?;
+        if self.place.written == 0 {
+            self.check_first(rt, &front[..n])?;
         }
-        Err(e) => {
-            files::fail(rt, call_name, e);
-            false
-        }
+        Ok(())
     }
-}
 
-// Whether an open OUT of this length, with these first bytes and these at the place where the job goes on, is this job's.
-fn check_read(
-    rt: &HostRuntime,
-    t: &[i16; 1880],
-    b: &[i16; 234],
-    p: Saved,
-    call: &File,
-    call_name: &[u8],
-    name: &[u8],
-    length: u64,
-    front: &[u8],
-    tail: &[u8],
-) -> bool {
-    if !check(rt, name, p, b, length, front, tail) {
-        return false;
-    }
-    if p.written != 0 {
-        return true;
-    }
-    check_first(rt, t, b, p, call, call_name, name, front)
-}
-
-// Whether an open OUT is this job's.
-fn check_open(
-    rt: &HostRuntime,
-    t: &[i16; 1880],
-    b: &[i16; 234],
-    p: Saved,
-    call: &File,
-    call_name: &[u8],
-    out: &File,
-    name: &[u8],
-    length: u64,
-) -> bool {
-    let mut front = [0u8; FRAME_ROOM];
-    let mut tail = [0u8; TAIL_ROOM];
-    let first = out.read_at(&mut front, 0);
-    let last = out.read_at(
-        &mut tail,
-        parts::position(job_step::tail_at(p)).cast_unsigned(),
-    );
-    match last {
-        Ok(m) => match first {
-            Ok(n) => check_read(
-                rt,
-                t,
-                b,
-                p,
-                call,
-                call_name,
-                name,
-                length,
-                &front[0..n],
-                &tail[0..m],
-            ),
-            Err(e) => {
-                files::fail(rt, name, e);
-                false
-            }
-        },
-        Err(e) => {
-            files::fail(rt, name, e);
-            false
-        }
-    }
-}
-
-// Whether OUT is this job's, as far as it is there.
-pub(crate) fn is_out(
-    rt: &HostRuntime,
-    t: &[i16; 1880],
-    b: &[i16; 234],
-    p: Saved,
-    call: &File,
-    call_name: &[u8],
-    name: &[u8],
-    seen: Seen,
-) -> bool {
-    if !seen.there {
-        return check(rt, name, p, b, 0, b"", b"");
-    }
-    match files::open(rt, name) {
-        Ok(out) => check_open(rt, t, b, p, call, call_name, &out, name, seen.length),
-        Err(e) => {
-            files::fail(rt, name, e);
-            false
-        }
+    // OUT is this job's, as far as it is there.
+    pub(crate) fn owns(self, rt: &HostRuntime, seen: Seen) -> Result<(), Told> {
+        let Ok(known) = seen else {
+            return self.check(rt, 0, b"", b"");
+        };
+        let out = or_tell(rt, self.name, files::open(rt, self.name))?;
+        self.check_open(rt, &out, known.length)
     }
 }
 
@@ -176,18 +92,12 @@ fn update(rt: &HostRuntime, name: &[u8]) -> io::Result<File> {
         .open(rt, files::text(name)?)
 }
 
-// Opens OUT where it was found, or makes it; none, with a message, where that fails.
-pub(crate) fn open(rt: &HostRuntime, name: &[u8], there: bool) -> Option<File> {
+// Opens OUT where it was found, or makes it.
+pub(crate) fn open(rt: &HostRuntime, name: &[u8], there: bool) -> Result<File, Told> {
     let opened = if there {
         update(rt, name)
     } else {
         make(rt, name)
     };
-    match opened {
-        Ok(file) => Some(file),
-        Err(e) => {
-            files::fail(rt, name, e);
-            None
-        }
-    }
+    or_tell(rt, name, opened)
 }

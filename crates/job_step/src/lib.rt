@@ -2,13 +2,15 @@
 // state is saved. The files are the program's.
 #![tactic(auto)]
 
-ghost use Rattle.std.specs.Prelude.{◌≡◌, cond, ◌∷◌, [], ◌≤◌, min};
+ghost use Rattle.std.specs.Prelude.{◌≡◌, cond, ◌∷◌, []};
+ghost use Rattle.refusal.specs.Refusal.{code};
 ghost use Rattle.laws.specs.Bytes.{same};
 ghost use Rattle.job_step.specs.Step.{due, fits, like, frame_form, own_output, own_state, last_printed, tail_at, out_check, one, different};
 
 use block::places::{FRAME_LENGTH, STATE_LENGTH, TAIL_LENGTH};
 use job::Saved;
 use print::FRAME_ROOM;
+use refusal::Refusal;
 
 // A file by its device and inode number, where it is there.
 #[derive(Clone, Copy)]
@@ -31,13 +33,6 @@ pub fn due(p: Saved, saved: u32) -> bool
     saved as u64 + EACH as u64 <= p.lines as u64
 }
 
-// The lesser of two lengths.
-fn lesser(a: usize, b: usize) -> usize
-    ensures { (result ≡ min a b) × ((result ≤ a) × (result ≤ b)) }
-{
-    if a < b { a } else { b }
-}
-
 // Whether a byte is that of a form, where `h` is any digit.
 fn fits(a: u8, b: u8) -> bool
     ensures { result ≡ fits a b }
@@ -49,13 +44,10 @@ fn fits(a: u8, b: u8) -> bool
 fn like(text: &[u8], form: &[u8]) -> bool
     ensures { result ≡ like text.now form.now }
 {
-    let n = lesser(text.len(), form.len());
-    let mut i = 0;
-    while i < n {
+    for i in 0..text.len().min(form.len()) {
         if !fits(text[i], form[i]) {
             return false;
         }
-        i += 1;
     }
     true
 }
@@ -101,27 +93,34 @@ fn own_tail(b: &[i16; 234], tail: &[u8]) -> bool
 pub fn tail_at(p: Saved) -> u64
     ensures { result ≡ tail_at p }
 {
-    if p.written < TAIL_ROOM as u64 {
-        return 0;
-    }
-    p.written - TAIL_ROOM as u64
+    p.written.saturating_sub(TAIL_ROOM as u64)
 }
 
-// The number of an OUT.
-fn code(own: bool) -> u32
-    ensures { result ≡ cond own 0 27 }
+// The answer for an OUT that is the job's or isn't.
+fn answer(own: bool) -> Result<(), Refusal>
+    ensures { code result ≡ cond own 0 27 }
 {
-    if own { 0 } else { 27 }
+    if own {
+        Ok(())
+    } else {
+        Err(Refusal::OtherOutput)
+    }
 }
 
-// Whether OUT, of this length, is this job's: 0; 27 where it isn't. `front` are its first bytes, FRAME_ROOM or as many as there are; `tail` those from `tail_at` up to `p.written`.
-pub fn out_check(p: Saved, b: &[i16; 234], length: u64, front: &[u8], tail: &[u8]) -> u32
-    ensures { result ≡ out_check p b.now length front.now tail.now }
+// Whether OUT, of this length, is this job's; 27 where it isn't. `front` are its first bytes, FRAME_ROOM or as many as there are; `tail` those from `tail_at` up to `p.written`.
+pub fn out_check(
+    p: Saved,
+    b: &[i16; 234],
+    length: u64,
+    front: &[u8],
+    tail: &[u8],
+) -> Result<(), Refusal>
+    ensures { code result ≡ out_check p b.now length front.now tail.now }
 {
     if p.written == 0 {
-        return code(own_output(front));
+        return answer(own_output(front));
     }
-    code((p.written <= length) & own_tail(b, tail))
+    answer((p.written <= length) & own_tail(b, tail))
 }
 
 // Whether both are there and are one file.

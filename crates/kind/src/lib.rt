@@ -12,14 +12,13 @@ pub fn known(kind: u32) -> bool
 }
 
 // The length of the payload that a frame of a kind comes with.
+#[tactic(auto, unfolding(crate::specs::Kind::payload_length))]
 pub fn payload_length(kind: u32) -> usize
     ensures { result ≡ payload_length kind }
 {
-    if kind == 0 {
-        10
-    } else if kind == 1 {
-        2
-    } else {
-        0
+    match kind {
+        0 => 10,
+        1 => 2,
+        _ => 0,
     }
 }

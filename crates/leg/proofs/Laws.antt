@@ -6,11 +6,11 @@ use Rattle.std.proofs.Math.Bool.{true, false}
 use mathlib.Core.List.{List, [], ◌∷◌, ◌++◌, map}
 use Rattle.std.proofs.Math.ListN.{length, take, drop, take-append-drop}
 use borrow.Author.Tests.{ne_eqb, eqb-false}
-use Rattle.g711.specs.G711.{known, byte_of, all_values, read, written, write_call}
+use Rattle.g711.specs.G711.{known, byte_of, all_values, written, write_call}
 use Rattle.pcm_line.specs.PcmLine.{samples}
 use Rattle.pcm_line.specs.PcmLine as PcmLine
 use Rattle.leg.specs.Leg.{back_to, bytes_of, answer}
-use Rattle.leg.specs.Laws.{many, by_values, Took, as_many, given}
+use Rattle.leg.specs.Laws.{by_values, Took, as_many, given}
 
 -- samples of which some are no table values are some
 some : (law : ℕ) (l : List ℤ) → all_values law l ≡ false → length l ≡ 0 → ⊥

@@ -3,16 +3,13 @@
 
 ghost use Rattle.std.specs.Prelude.{◌≡◌, ◌≤◌, length, take};
 ghost use Rattle.print.specs.Print.{frame_room, over};
-ghost use Rattle.leg.specs.Leg.{leg_line, Answer, bytes_of};
+ghost use Rattle.refusal.specs.Refusal.{code};
+ghost use Rattle.leg.specs.Leg.{leg_line, Answer, bytes_of, taken};
 
 use print::FRAME_ROOM;
+use refusal::Refusal;
 
-// 0, or the number of a line's refusal; and how many samples it has.
-#[derive(Clone, Copy)]
-pub struct Taken {
-    pub code: u32,
-    pub samples: usize,
-}
+// The law is a number here, as g711's calls have it: its answers for other numbers are part of what is promised.
 
 // `line` of at most 80 bytes.
 fn print_line(law: u32, bytes: &[u8], out: &mut [u8; FRAME_ROOM]) -> usize
@@ -24,10 +21,9 @@ fn print_line(law: u32, bytes: &[u8], out: &mut [u8; FRAME_ROOM]) -> usize
         return 0;
     }
     let mut samples = [0i16; 80];
-    let code = g711::read(law, bytes, &mut samples[0..n]);
-    if code != 0 {
+    let Ok(()) = g711::read(law, bytes, &mut samples[0..n]) else {
         return 0;
-    }
+    };
     pcm_line::write(&samples[0..n], out)
 }
 
@@ -43,33 +39,29 @@ pub fn line(law: u32, bytes: &[u8], out: &mut [u8; FRAME_ROOM]) -> usize
 }
 
 // `bytes_of` on a slice.
-fn step(law: u32, text: &[u8], bytes: &mut [u8]) -> Taken
+fn step(law: u32, text: &[u8], bytes: &mut [u8]) -> Result<usize, Refusal>
     requires { 80 ≤ length bytes.old }
-    ensures { (Answer.answer result.code result.samples bytes.new ≡ bytes_of law text.now bytes.old) × (result.samples ≤ 80) }
+    ensures { (Answer.answer (code result) (taken result) bytes.new ≡ bytes_of law text.now bytes.old) × (taken result ≤ 80) }
 {
     let mut samples = [0i16; 80];
     let n = pcm_line::read(text, &mut samples);
     // Where there are no samples, the law alone is tested.
-    let code = g711::write(law, &samples[0..n], &mut bytes[0..n]);
-    if code != 0 {
-        return Taken { code, samples: 0 };
-    }
-    if n == 0 {
-        return Taken {
-            code: 9,
-            samples: 0,
-        };
-    }
-    Taken {
-        code: 0,
-        samples: n,
+    match g711::write(law, &samples[0..n], &mut bytes[0..n]) {
+        Err(refused) => Err(refused),
+        Ok(()) => {
+            if n == 0 {
+                Err(Refusal::LineForm)
+            } else {
+                Ok(n)
+            }
+        }
     }
 }
 
 // The bytes of a line, without its line feed, at the front of `bytes`, and how many: the bytes behind them are as they were. 16: another law. 9: no line of 1 to 80 samples. 17: a sample
-// that is no table value. Each with no samples, and nothing written.
-pub fn bytes_of(law: u32, text: &[u8], bytes: &mut [u8; 80]) -> Taken
-    ensures { (Answer.answer result.code result.samples bytes.new ≡ bytes_of law text.now bytes.old) × (result.samples ≤ 80) }
+// that is no table value. Each with nothing written.
+pub fn bytes_of(law: u32, text: &[u8], bytes: &mut [u8; 80]) -> Result<usize, Refusal>
+    ensures { (Answer.answer (code result) (taken result) bytes.new ≡ bytes_of law text.now bytes.old) × (taken result ≤ 80) }
 {
     step(law, text, bytes)
 }

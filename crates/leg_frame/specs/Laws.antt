@@ -1,10 +1,10 @@
 -- Laws of the next frame of a leg: what the calls answer, by the tests of the code. Assumes nothing.
-use Rattle.std.specs.Prelude.{◌≡◌, refl, Bool, true, false, cond, ℕ, zero, suc, ◌+◌, ◌-◌, ◌*◌, ◌/◌, ◌%◌, ◌≤◌, ◌<◌, min, eqb, ltb, ℤ, take, get_or}
-use Rattle.std.proofs.Common.{sym, ap, ◌∙◌, add-one, arith, length-take, length-drop, drop_of_length-le, take_all, drop-cons, length-take-le, eq-eqb, ne_eqb, ltb-true, ltb-false}
-use mathlib.Core.List.{List, [], ◌∷◌, ◌++◌, map}
+use Rattle.std.specs.Prelude.{◌≡◌, refl, Bool, true, false, cond, ℕ, suc, ◌+◌, ◌-◌, ◌*◌, ◌/◌, ◌%◌, ◌≤◌, ◌<◌, min, eqb, ltb, ℤ, take, get_or}
+use Rattle.std.proofs.Common.{sym, ap, ◌∙◌, add-one, arith, length-take, length-drop, drop_of_length-le, take_all, drop-cons, eq-eqb, ltb-true, ltb-false}
+use mathlib.Core.List.{List, ◌++◌, map}
 use Rattle.std.proofs.Math.ListN.{length, drop}
 use Rattle.std.proofs.Math.Seq.{take-append_seam}
-use Rattle.laws.specs.Bytes.{same, same_true}
+use Rattle.laws.specs.Bytes.{same_true}
 use Rattle.text.specs.Text.{ascii, starts, Put}
 use Rattle.print.specs.Print.{over}
 use Rattle.print.specs.Laws.{front}

@@ -6,6 +6,8 @@ use Rattle.print.specs.Print.{figure}
 use Rattle.words.specs.Words.{from_bytes}
 use Rattle.g711.specs.G711.{value}
 use Rattle.pcm_line.specs.PcmLine as PcmLine
+use Rattle.leg_frame.specs.declared.Found.{Found}
+use Rattle.leg_frame.specs.declared.Found.TheVariants.{Samples, Total, NoLine, OtherTotal, Refused}
 
 -- the form of a leg by its first bytes: 5 a WAV file, 4 printed samples, 0 none that is known
 unfoldable pub form : List ℕ → ℕ
@@ -64,6 +66,21 @@ is_total n l = cond (same l (of_samples n)) true (of_frames n l)
 -- what it is, how many samples it has, and the frame
 pub data Answer : Type 0 where
   answer : ℕ → ℕ → List ℤ → Answer
+
+-- the number of what a line is, and how many samples it has
+abbrev pub what_of : Found → ℕ
+what_of (Samples n) = 0
+what_of Total = 1
+what_of NoLine = 2
+what_of OtherTotal = 3
+what_of Refused = 4
+
+abbrev pub samples_of : Found → ℕ
+samples_of (Samples n) = n
+samples_of Total = 0
+samples_of NoLine = 0
+samples_of OtherTotal = 0
+samples_of Refused = 0
 
 -- 0 samples, 1 the total of so many samples, 2 neither, 3 the total of another number, 4 a refused call; where there are no samples the frame is silence
 unfoldable pub line : ℕ → List ℕ → Answer

@@ -4,9 +4,11 @@
 
 ghost use Rattle.std.specs.Prelude.{◌≡◌, true, ◌++◌, map, ◌≤◌, min, length, take, drop};
 ghost use Rattle.laws.specs.Bytes.{same};
-ghost use Rattle.g711.specs.G711.{known, value};
-ghost use Rattle.leg_frame.specs.LegFrame.{form, law, taken, samples, is_figure, leading, closes, of_samples, of_frames, is_total, Answer, line};
+ghost use Rattle.g711.specs.G711.{value};
+ghost use Rattle.g711.specs.Law.{number};
+ghost use Rattle.leg_frame.specs.LegFrame.{form, law, taken, samples, is_figure, leading, closes, of_samples, of_frames, is_total, Answer, line, what_of, samples_of};
 
+use g711::Law;
 use print::FORM_ROOM;
 use text::starts;
 
@@ -23,22 +25,26 @@ pub const PRINTED: u32 = 4;
 
 pub const WAV: u32 = 5;
 
-// What a line of a printed leg is: samples, the total of those before it, or neither; the total of another number; or that the call was refused.
-pub const FRAME: u32 = 0;
+// What a line of a printed leg is: so many samples, the total of those before it, or neither; the total of another number; or that the call was refused.
+#[derive(Clone, Copy, Debug, PartialEq, Eq)]
+pub enum Found {
+    Samples(usize),
+    Total,
+    NoLine,
+    OtherTotal,
+    Refused,
+}
 
-pub const TOTAL: u32 = 1;
-
-pub const NO_LINE: u32 = 2;
-
-pub const OTHER_TOTAL: u32 = 3;
-
-pub const REFUSED: u32 = 4;
-
-// One of these, and how many samples it has.
-#[derive(Clone, Copy)]
-pub struct Found {
-    pub what: u32,
-    pub samples: usize,
+impl Found {
+    // How many samples it has.
+    pub fn samples(self) -> usize
+        ensures { result ≡ samples_of self }
+    {
+        match self {
+            Found::Samples(n) => n,
+            _ => 0,
+        }
+    }
 }
 
 // The form of a leg that begins with these bytes.
@@ -63,22 +69,23 @@ pub fn form(bytes: &[u8]) -> u32
 // ---- bytes and words
 
 // The law of a form of bytes.
-fn law(form: u32) -> u32
-    ensures { (result ≡ law form) × (known result ≡ true) }
+fn law(form: u32) -> Law
+    ensures { number result ≡ law form }
 {
     if form == A {
-        return g711::A;
+        return Law::A;
     }
-    g711::MU
+    Law::Mu
 }
 
 // The samples of the first 80 bytes of a law, or of all where there are fewer, at the front of a frame; answers how many.
-fn expand(law: u32, bytes: &[u8], frame: &mut [i16]) -> usize
-    requires { (length frame.old ≡ 80) × (known law ≡ true) }
-    ensures { (result ≡ min (length bytes.now) 80) × (frame.new ≡ map (value law) (take 80 bytes.now) ++ drop (min (length bytes.now) 80) frame.old) }
+fn expand(law: Law, bytes: &[u8], frame: &mut [i16]) -> usize
+    requires { length frame.old ≡ 80 }
+    ensures { (result ≡ min (length bytes.now) 80) × (frame.new ≡ map (value (number law)) (take 80 bytes.now) ++ drop (min (length bytes.now) 80) frame.old) }
 {
-    let n = words::lesser(bytes.len(), 80);
-    g711::read(law, &bytes[0..n], &mut frame[0..n]);
+    let n = bytes.len().min(80);
+    // A law and as many samples as bytes: there is nothing to refuse.
+    let _ = g711::read(u32::from(law), &bytes[0..n], &mut frame[0..n]);
     n
 }
 
@@ -88,7 +95,7 @@ fn read_words(bytes: &[u8], frame: &mut [i16; 80]) -> usize
 {
     *frame = [0; 80];
     words::from_bytes(bytes, frame);
-    2 * words::lesser(bytes.len() / 2, 80)
+    2 * (bytes.len() / 2).min(80)
 }
 
 // The next frame of a leg of bytes or words: the samples at their front, at most 80, and silence behind them where there are fewer. Answers how many bytes were taken, 0 where there is no sample.
@@ -119,14 +126,12 @@ fn is_figure(b: u8) -> bool
 fn leading(text: &[u8]) -> usize
     ensures { (result ≡ leading text.now) × (result ≤ length text.now) }
 {
-    let mut i = 0;
-    while i < text.len() {
-        if !is_figure(text[i]) {
+    for (i, b) in text.iter().enumerate() {
+        if !is_figure(*b) {
             return i;
         }
-        i += 1;
     }
-    i
+    text.len()
 }
 
 // Whether a text is a number and what closes a total behind it.
@@ -176,33 +181,23 @@ fn is_total(n: u32, text: &[u8]) -> bool
     of_frames(n, text)
 }
 
-// No samples.
-fn no_samples(what: u32) -> Found
-    ensures { (result.what ≡ what) × (result.samples ≡ 0) }
-{
-    Found { what, samples: 0 }
-}
-
 // What a line of a printed leg is, without its line feed and behind so many samples, and its frame: silence where it has no samples.
 pub fn line(before: u32, text: &[u8], frame: &mut [i16; 80]) -> Found
-    ensures { (Answer.answer result.what result.samples frame.new ≡ line before text.now) × (result.samples ≤ 80) }
+    ensures { (Answer.answer (what_of result) (samples_of result) frame.new ≡ line before text.now) × (samples_of result ≤ 80) }
 {
     *frame = [0; 80];
     if starts(text, b"(total ") {
         if is_total(before, text) {
-            return no_samples(TOTAL);
+            return Found::Total;
         }
-        return no_samples(OTHER_TOTAL);
+        return Found::OtherTotal;
     }
     if starts(text, b"(refused ") {
-        return no_samples(REFUSED);
+        return Found::Refused;
     }
     let n = pcm_line::read(text, frame);
     if n == 0 {
-        return no_samples(NO_LINE);
+        return Found::NoLine;
     }
-    Found {
-        what: FRAME,
-        samples: n,
-    }
+    Found::Samples(n)
 }

@@ -1,20 +1,21 @@
 -- Laws of the call text: what Line takes is the text of the payload that it writes, and every such text is taken. Assumes nothing.
-use Rattle.std.specs.Prelude.{◌≡◌, Bool, true, false, cond, ℕ, zero, suc, ◌+◌, ◌*◌, ◌/◌, ◌%◌, ◌≤◌, ◌<◌, eqb, get_or, take, drop, set}
+use Rattle.std.specs.Prelude.{◌≡◌, Bool, true, false, cond, ℕ, zero, suc, ◌+◌, ◌-◌, ◌*◌, ◌/◌, ◌%◌, ◌≤◌, ◌<◌, eqb, get_or, take, drop, set, ◌&&◌, Ok, Err}
+use Rattle.std.specs.List.{list_all}
 use Rattle.std.proofs.Math.Path.{refl, ap}
-use Rattle.std.proofs.Common.{sym, ◌∙◌, add-one, length-append, length-take, take-append-drop, get_or-drop, take-suc, drop-cons, take_at, drop_at, drop-drop, take_all, get_or-take, eq-eqb, eqb-true}
+use Rattle.std.proofs.Common.{sym, ◌∙◌, add-one, length-append, length-take, take-append-drop, get_or-drop, take-suc, drop-cons, take_at, drop_at, drop-drop, take_all, eq-eqb, ne_eqb, eqb-true}
 use mathlib.Core.List.{List, [], ◌∷◌, ◌++◌, append_assoc, append-nil}
 use native.Mathlib.Omega.{arith}
 use Rattle.std.proofs.Math.ListN.{length, length-drop}
 use Rattle.std.proofs.lemmas.List.{set_at}
 use Rattle.std.proofs.Math.Seq.{append_snoc, take-length}
 use Rattle.std.proofs.lemmas.Bool.{eqb-false}
-use Rattle.laws.specs.Bytes.{same, same_self, same_true, unlike, both, same_parts}
+use lib.Pointwise.{pointwise}
+use Rattle.laws.specs.Bytes.{same, same_self, same_true, unlike, same_parts}
 use Rattle.laws.specs.Digits.{digit, is_digit, value, value_lt, digit_is, value_digit, high, low}
-use Rattle.text.specs.Text.{Put}
+use Rattle.text.specs.Text.{ascii, Put}
 use Rattle.text.specs.Laws.{then, nothing}
 use Rattle.kind.specs.Kind.{payload_length}
 use Rattle.kind.specs.Laws.{by_kind, payload_few}
-use Rattle.line.specs.declared.Read.TheVariants.{Refused, Frame}
 use Rattle.line.specs.Line.{shortest, longest, pair, hex, opening, closing, form, text, bytes, is_hex, is_form, is, payload, Answer, answer, took, line}
 
 -- whether each byte is a digit
@@ -67,12 +68,12 @@ pub hex_odd : (l : List ℕ) → (length l % 2 ≡ 0 → ⊥) → is_hex l ≡ f
 unfolding is_hex
 hex_odd l h = unlike l (hex (bytes (length l / 2) l)) (λ e. h (let f : length l ≡ 2 * (length l / 2) = e ∙ length_hex _ ∙ rw (length_bytes (length l / 2) l) in omega arith))
 
-pub hex_even : (l : List ℕ) → length l % 2 ≡ 0 → all_digits (take (length l) (drop 0 l)) ≡ is_hex l
+pub hex_even : (l : List ℕ) → length l % 2 ≡ 0 → all_digits l ≡ is_hex l
 unfolding is_hex
 hex_even l h =
     let e : 2 * (length l / 2) ≡ length l = omega arith in
     let d : same (take (length l) l) (hex (bytes (length l / 2) l)) ≡ all_digits (take (length l) l) = rw e at (digits_all (length l / 2) l (omega arith)) in
-    sym d ∙ rw (take-length l)
+    sym (rw take-length at d)
 
 pub hex_same : (l : List ℕ) → is_hex l ≡ true → l ≡ hex (bytes (length l / 2) l)
 unfolding is_hex
@@ -121,39 +122,36 @@ other_length o l n h =
     let b : List ℕ = bytes n (drop (length o) l) in
     unlike l (form o b) (λ e. h (e ∙ length_form o b ∙ rw (length_bytes n (drop (length o) l)) (omega arith)))
 
--- ---- the loops: digits tested, and bytes written, from the front
+-- ---- what the library's tests say: each byte is a digit, a text begins with another
 
-all_parts : (l m : List ℕ) → all_digits (l ++ m) ≡ cond (all_digits l) (all_digits m) false
-unfolding all_digits
-all_parts [] m = refl
-all_parts (a ∷ l) m = rw (all_parts l m) (both (is_digit a) (all_digits l) (all_digits m))
+also : (p q : Bool) → (p && q) ≡ cond p q false
+also true q = refl
+also false q = refl
 
-one_more : (l : List ℕ) (n : ℕ) → n < length l → all_digits (take n l) ≡ true → is_digit (get_or l n 0) ≡ true → all_digits (take (n + 1) l) ≡ true
+pub each_digit : (l : List ℕ) → list_all is_digit l ≡ all_digits l
 unfolding all_digits
-one_more l n h e g = rw (add-one, take-suc l n 0 h, all_parts, e, g)
+each_digit [] = refl
+each_digit (a ∷ l) = rw (each_digit l) (also (is_digit a) (all_digits l))
 
-no_digit : (l : List ℕ) (i : ℕ) → i < length l → is_digit (get_or l i 0) ≡ false → all_digits l ≡ false
-unfolding all_digits
-no_digit [] i h e = absurd (omega arith)
-no_digit (a ∷ l) zero h e = rw e
-no_digit (a ∷ l) (suc i) h e = rw (no_digit l i (omega arith) e) (never (is_digit a))
+eqb_turned : (a b : ℕ) → eqb a b ≡ eqb b a
+eqb_turned a b = by (eqb b a) refl
   where
-    never : (t : Bool) → cond t false false ≡ false
-    never true = refl
-    never false = refl
+    by : (p : Bool) → eqb b a ≡ p → eqb a b ≡ p
+    by true e = eq-eqb a b (sym (eqb-true b a e))
+    by false e = ne_eqb a b (λ h. eqb-false b a e (sym h))
 
-module _ (t : List ℕ) (from n i : ℕ) (h : from + n ≤ length t) (k : i < n) where
-  pub digit_more : all_digits (take i (drop from t)) ≡ true → is_digit (get_or t (from + i) 0) ≡ true → all_digits (take (i + 1) (drop from t)) ≡ true
-  digit_more e g = one_more (drop from t) i (simp length-drop (omega arith)) e (rw get_or-drop g)
+pub begins : (o l : List ℕ) → pointwise eqb o l ≡ same l o
+unfolding same
+begins [] [] = refl
+begins [] (b ∷ l) = refl
+begins (a ∷ o) [] = refl
+begins (a ∷ o) (b ∷ l) = rw (eqb_turned a b, begins o l) (also (eqb b a) (same l o))
 
-  pub digit_not : is_digit (get_or t (from + i) 0) ≡ false → all_digits (take n (drop from t)) ≡ false
-  digit_not g =
-      let d : n ≤ length (drop from t) = simp length-drop (omega arith) in
-      no_digit (take n (drop from t)) i (simp length-take (omega arith)) (rw (get_or-take n (drop from t) i 0 k, get_or-drop) g)
+-- a part that goes up to the end
+pub up_to_end : (l : List ℕ) (n : ℕ) → take (length l - n) (drop n l) ≡ drop n l
+up_to_end l n = take_all (length l - n) (drop n l) (rw length-drop (omega arith))
 
-pub none_digits : (l : List ℕ) → all_digits (take 0 l) ≡ true
-unfolding all_digits
-none_digits l = refl
+-- ---- the loops: bytes read and written, from the front
 
 bytes_more : (n : ℕ) (l : List ℕ) → bytes (suc n) l ≡ bytes n l ++ ((16 * value (get_or l (2 * n) 0) + value (get_or l (2 * n + 1) 0)) ∷ [])
 unfolding bytes
@@ -172,11 +170,6 @@ put_more l lent out n v h e g =
 pub put_none : (l lent : List ℕ) → lent ≡ bytes 0 l ++ drop 0 lent
 unfolding bytes
 put_none l lent = refl
-
--- a byte as the code makes it
-pub paired : (t : List ℕ) (from i a b : ℕ) → a ≡ value (get_or t (from + 2 * i) 0) → b ≡ value (get_or t (from + (2 * i + 1)) 0)
-    → 16 * a + b ≡ 16 * value (get_or (drop from t) (2 * i) 0) + value (get_or (drop from t) (2 * i + 1) 0)
-paired t from i a b e f = rw (get_or-drop from t (2 * i) 0, get_or-drop from t (2 * i + 1) 0, e, f)
 
 -- ---- sound: what is taken is the text of its kind with the bytes written, and the bytes behind those are unchanged
 
@@ -213,12 +206,12 @@ fits k l lent left h t e g =
 
 -- what Line can answer
 cases : (l lent : List ℕ) (P : Answer → Type 0) → ((k : ℕ) → k ≤ 3 → length lent ≡ 10 → is k l ≡ true → P (took k l lent))
-    → P (answer (Refused 9) lent) → ((length lent ≡ 10 → ⊥) → P (answer (Refused 11) lent)) → P (line l lent)
+    → P (answer (Err 9) lent) → ((length lent ≡ 10 → ⊥) → P (answer (Err 11) lent)) → P (line l lent)
 unfolding line
 cases l lent P f g h = by (eqb (length lent) 10) (is 0 l) (is 1 l) (is 2 l) (is 3 l) refl refl refl refl refl
   where
     by : (t a b c d : Bool) → eqb (length lent) 10 ≡ t → is 0 l ≡ a → is 1 l ≡ b → is 2 l ≡ c → is 3 l ≡ d
-        → P (cond t (cond a (took 0 l lent) (cond b (took 1 l lent) (cond c (took 2 l lent) (cond d (took 3 l lent) (answer (Refused 9) lent))))) (answer (Refused 11) lent))
+        → P (cond t (cond a (took 0 l lent) (cond b (took 1 l lent) (cond c (took 2 l lent) (cond d (took 3 l lent) (answer (Err 9) lent))))) (answer (Err 11) lent))
     by false a b c d e i j k m = h (eqb-false _ _ e)
     by true true b c d e i j k m = f 0 (omega arith) (eqb-true _ _ e) i
     by true false true c d e i j k m = f 1 (omega arith) (eqb-true _ _ e) j
@@ -226,38 +219,38 @@ cases l lent P f g h = by (eqb (length lent) 10) (is 0 l) (is 1 l) (is 2 l) (is 
     by true false false false true e i j k m = f 3 (omega arith) (eqb-true _ _ e) m
     by true false false false false e i j k m = g
 
-pub sound : (l lent left : List ℕ) (kind : ℕ) → line l lent ≡ answer (Frame kind) left → Took l lent kind left
+pub sound : (l lent left : List ℕ) (kind : ℕ) → line l lent ≡ answer (Ok kind) left → Took l lent kind left
 unfolding took
-sound l lent left kind = cases l lent (λ (a : Answer). a ≡ answer (Frame kind) left → Took l lent kind left) yes (no 9) (λ h. no 11)
+sound l lent left kind = cases l lent (λ (a : Answer). a ≡ answer (Ok kind) left → Took l lent kind left) yes (no 9) (λ h. no 11)
   where
-    yes : (k : ℕ) → k ≤ 3 → length lent ≡ 10 → is k l ≡ true → took k l lent ≡ answer (Frame kind) left → Took l lent kind left
+    yes : (k : ℕ) → k ≤ 3 → length lent ≡ 10 → is k l ≡ true → took k l lent ≡ answer (Ok kind) left → Took l lent kind left
     yes k h t e g =
         let p : k ≡ kind = cc in
         let q : left ≡ payload k l ++ drop (payload_length k) lent = cc in
         rw (← p) (fits k l lent left h t e q)
 
-    no : (n : ℕ) → answer (Refused n) lent ≡ answer (Frame kind) left → Took l lent kind left
+    no : (n : ℕ) → answer (Err n) lent ≡ answer (Ok kind) left → Took l lent kind left
     no n g = let z : ◌≡◌ {A = ℕ} 0 1 = cc in absurd (omega arith)
 
-pub frame_line : (l lent left : List ℕ) (kind : ℕ) → line l lent ≡ answer (Frame kind) left → (kind ≤ 3) × (length left ≡ 10)
+pub frame_line : (l lent left : List ℕ) (kind : ℕ) → line l lent ≡ answer (Ok kind) left → (kind ≤ 3) × (length left ≡ 10)
 frame_line l lent left kind e = let t = sound l lent left kind e in (t.low, t.ten)
 
-pub frame_length : (l lent left : List ℕ) (kind : ℕ) → line l lent ≡ answer (Frame kind) left → (shortest ≤ length l) × (length l ≤ longest)
+pub frame_length : (l lent left : List ℕ) (kind : ℕ) → line l lent ≡ answer (Ok kind) left → (shortest ≤ length l) × (length l ≤ longest)
 frame_length l lent left kind e = let t = sound l lent left kind e in (t.least, t.most)
 
 -- a refusal has a number, and with ten bytes lent it is 9
-pub refused_some : (l lent left : List ℕ) (n : ℕ) → line l lent ≡ answer (Refused n) left → 0 < n
+pub refused_some : (l lent left : List ℕ) (n : ℕ) → line l lent ≡ answer (Err n) left → 0 < n
 unfolding took
 refused_some l lent left n =
-    cases l lent (λ (a : Answer). a ≡ answer (Refused n) left → 0 < n)
+    cases l lent (λ (a : Answer). a ≡ answer (Err n) left → 0 < n)
     (λ k h t e g. let z : ◌≡◌ {A = ℕ} 0 1 = cc in absurd (omega arith))
     (λ g. let z : 9 ≡ n = cc in omega arith)
     (λ h g. let z : 11 ≡ n = cc in omega arith)
 
-pub refused_line : (l lent left : List ℕ) (n : ℕ) → length lent ≡ 10 → line l lent ≡ answer (Refused n) left → n ≡ 9
+pub refused_line : (l lent left : List ℕ) (n : ℕ) → length lent ≡ 10 → line l lent ≡ answer (Err n) left → n ≡ 9
 unfolding took
 refused_line l lent left n h =
-    cases l lent (λ (a : Answer). a ≡ answer (Refused n) left → n ≡ 9)
+    cases l lent (λ (a : Answer). a ≡ answer (Err n) left → n ≡ 9)
     (λ k i t e g. let z : ◌≡◌ {A = ℕ} 0 1 = cc in absurd (omega arith))
     (λ g. cc)
     (λ i. absurd (i h))
@@ -290,10 +283,10 @@ module _ (k : ℕ) (l : List ℕ) (n : length l ≡ payload_length k) where
       (λ e. h (let f : length (text k l) ≡ length (opening k) + (2 * length l + 2) = length_form (opening k) l in omega arith))
 
 pub complete : (k : ℕ) → k ≤ 3 → (l lent : List ℕ) → length l ≡ payload_length k → ((i : ℕ) → get_or l i 0 < 256) → length lent ≡ 10
-    → line (text k l) lent ≡ answer (Frame k) (l ++ drop (payload_length k) lent)
+    → line (text k l) lent ≡ answer (Ok k) (l ++ drop (payload_length k) lent)
 unfolding line took opening payload_length
 complete k h l lent =
-    by_kind (λ (k : ℕ). length l ≡ payload_length k → ((i : ℕ) → get_or l i 0 < 256) → length lent ≡ 10 → line (text k l) lent ≡ answer (Frame k) (l ++ drop (payload_length k) lent))
+    by_kind (λ (k : ℕ). length l ≡ payload_length k → ((i : ℕ) → get_or l i 0 < 256) → length lent ≡ 10 → line (text k l) lent ≡ answer (Ok k) (l ++ drop (payload_length k) lent))
     (λ n b e. rw (eq-eqb (length lent) 10 e, is_text 0 l n b, read_back 0 l n b))
     (λ n b e. rw (eq-eqb (length lent) 10 e, not_text 1 l n 0 (λ z. omega arith), is_text 1 l n b, read_back 1 l n b))
     (λ n b e. rw (eq-eqb (length lent) 10 e, not_text 2 l n 0 (λ z. omega arith), not_text 2 l n 1 (λ z. omega arith), is_text 2 l n b, read_back 2 l n b))
@@ -320,14 +313,36 @@ length_hex_take l i h = length_hex (take i l) ∙ rw length-take (omega arith)
 
 -- ---- the text of a kind, from its opening
 
--- it has room
-pub kind_room : (kind j : ℕ) (l lent : List ℕ) → kind ≡ j → kind ≤ 3 → length l ≡ payload_length kind → length lent ≡ longest → length (opening j) + (2 * length l + 2) ≤ length lent
-unfolding opening payload_length
-kind_room kind j l lent e h n m =
-    rw (← e, m)
-    (by_kind (λ (k : ℕ). length l ≡ payload_length k → length (opening k) + (2 * length l + 2) ≤ longest) (λ i. omega arith) (λ i. omega arith) (λ i. omega arith) (λ i. omega arith)
-    kind h n)
+pub opening_few : (kind : ℕ) → length (opening kind) ≤ 14
+unfolding opening
+opening_few kind = by (eqb kind 0) (eqb kind 1) (eqb kind 2)
+  where
+    by : (p q r : Bool) → length (cond p (ascii "(frame (voice ") (cond q (ascii "(frame (sid ") (cond r (ascii "(frame (quiet") (ascii "(frame (lost")))) ≤ 14
+    by true q r = omega arith
+    by false true r = omega arith
+    by false false true = omega arith
+    by false false false = omega arith
 
-pub kind_text : (kind j : ℕ) (l : List ℕ) {lent out : List ℕ} {r : ℕ} → kind ≡ j → Put (form (opening j) l) 0 lent r out → Put (text kind l) 0 lent r out
-unfolding text
-kind_text kind j l e p = rw e p
+-- it has room
+pub kind_room : (kind : ℕ) (l : List ℕ) → kind ≤ 3 → length l ≡ payload_length kind → length (opening kind) + (2 * length l + 2) ≤ longest
+unfolding opening payload_length
+kind_room kind l h n =
+    by_kind (λ (k : ℕ). length l ≡ payload_length k → length (opening k) + (2 * length l + 2) ≤ longest) (λ i. omega arith) (λ i. omega arith) (λ i. omega arith) (λ i. omega arith)
+    kind h n
+
+-- ---- the kinds tried one by one
+
+-- the first that fits is taken
+pub first_kind : (l lent : List ℕ) (k : ℕ) → k ≤ 3 → length lent ≡ 10 → ((j : ℕ) → j < k → is j l ≡ false) → is k l ≡ true → line l lent ≡ took k l lent
+unfolding line
+first_kind l lent k h n =
+    by_kind (λ (k : ℕ). ((j : ℕ) → j < k → is j l ≡ false) → is k l ≡ true → line l lent ≡ took k l lent)
+    (λ f e. rw (eq-eqb _ _ n, e))
+    (λ f e. rw (eq-eqb _ _ n, f 0 (omega arith), e))
+    (λ f e. rw (eq-eqb _ _ n, f 0 (omega arith), f 1 (omega arith), e))
+    (λ f e. rw (eq-eqb _ _ n, f 0 (omega arith), f 1 (omega arith), f 2 (omega arith), e))
+    k h
+
+pub no_kind : (l lent : List ℕ) → length lent ≡ 10 → ((j : ℕ) → j < 4 → is j l ≡ false) → line l lent ≡ answer (Err 9) lent
+unfolding line
+no_kind l lent n f = rw (eq-eqb _ _ n, f 0 (omega arith), f 1 (omega arith), f 2 (omega arith), f 3 (omega arith))

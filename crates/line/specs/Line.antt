@@ -1,12 +1,10 @@
 -- The operation Line (01, "The call text and the program"): a line of the call text, without its line feed, to a frame's kind and payload.
 -- A text is the list of its bytes in ASCII.
-use Rattle.std.specs.Prelude.{Bool, cond, List, [], ◌∷◌, ◌++◌, ℕ, zero, suc, ◌+◌, ◌*◌, ◌/◌, ◌%◌, eqb, length, get_or, drop}
+use Rattle.std.specs.Prelude.{Bool, cond, List, [], ◌∷◌, ◌++◌, ℕ, zero, suc, ◌+◌, ◌*◌, ◌/◌, ◌%◌, eqb, length, get_or, drop, Result, Ok, Err}
 use Rattle.laws.specs.Bytes.{same}
 use Rattle.laws.specs.Digits.{digit, value}
 use Rattle.text.specs.Text.{ascii}
 use Rattle.kind.specs.Kind.{payload_length}
-use Rattle.line.specs.declared.Read.{Read}
-use Rattle.line.specs.declared.Read.TheVariants.{Refused, Frame}
 
 -- ---- the text of a frame
 
@@ -69,15 +67,15 @@ payload kind l = bytes (payload_length kind) (drop (length (opening kind)) l)
 
 -- its answer, and the lent bytes as it leaves them
 pub data Answer : Type 0 where
-  answer : Read → List ℕ → Answer
+  answer : Result ℕ ℕ → List ℕ → Answer
 
 -- success: the kind, and the payload at the front of the lent bytes
 unfoldable pub took : ℕ → List ℕ → List ℕ → Answer
-took kind l lent = answer (Frame kind) (payload kind l ++ drop (payload_length kind) lent)
+took kind l lent = answer (Ok kind) (payload kind l ++ drop (payload_length kind) lent)
 
 -- 11: not ten bytes. 9: the line is of none of the four forms. A refusal leaves the bytes as they were.
 unfoldable pub line : List ℕ → List ℕ → Answer
 line l lent =
     cond (eqb (length lent) 10)
-    (cond (is 0 l) (took 0 l lent) (cond (is 1 l) (took 1 l lent) (cond (is 2 l) (took 2 l lent) (cond (is 3 l) (took 3 l lent) (answer (Refused 9) lent)))))
-    (answer (Refused 11) lent)
+    (cond (is 0 l) (took 0 l lent) (cond (is 1 l) (took 1 l lent) (cond (is 2 l) (took 2 l lent) (cond (is 3 l) (took 3 l lent) (answer (Err 9) lent)))))
+    (answer (Err 11) lent)

@@ -1,5 +1,5 @@
 -- Writing and reading a line undo each other (01 has both: the forms are compared and written). Assumes nothing.
-use Rattle.std.specs.Prelude.{◌≡◌, refl, Bool, true, false, cond, List, ◌++◌, ℕ, ◌+◌, ◌≤◌, ◌<◌, eqb, length, get_or, take, drop}
+use Rattle.std.specs.Prelude.{◌≡◌, refl, Bool, true, false, cond, List, ◌++◌, ℕ, ◌+◌, ◌≤◌, ◌<◌, eqb, length, get_or, take, drop, Ok, Err}
 use Rattle.std.proofs.Common.{◌∙◌, arith, length-take, eq-eqb, eqb-true}
 use Rattle.std.proofs.Math.Seq.{take-append_seam}
 use Rattle.text.specs.Text.{written}
@@ -7,8 +7,6 @@ use Rattle.kind.specs.Kind.{known, payload_length}
 use Rattle.kind.specs.Laws.{known_low, low_known, payload_few}
 use Rattle.line.specs.Line.{longest, text, line}
 use Rattle.line.specs.Line as Line
-use Rattle.line.specs.declared.Read.TheVariants.{Frame}
-use Rattle.line.specs.declared.Written.TheVariants.{Refused, Done}
 use Rattle.line.specs.Write.{answer, write}
 use Rattle.line.specs.Laws.{sound, complete}
 
@@ -20,12 +18,12 @@ pub record Wrote (kind : ℕ) (l lent : List ℕ) (n : ℕ) (out : List ℕ) : T
   pub line_length : n ≡ length (text kind l)
   pub bytes : out ≡ written (text kind l) 0 lent
 
-pub wrote : (kind : ℕ) (l lent out : List ℕ) (n : ℕ) → write kind l lent ≡ answer (Done n) out → Wrote kind l lent n out
+pub wrote : (kind : ℕ) (l lent out : List ℕ) (n : ℕ) → write kind l lent ≡ answer (Ok n) out → Wrote kind l lent n out
 unfolding write
 wrote kind l lent out n = by (known kind) (eqb (length l) (payload_length kind)) (eqb (length lent) longest) refl refl refl
   where
     by : (p q r : Bool) → known kind ≡ p → eqb (length l) (payload_length kind) ≡ q → eqb (length lent) longest ≡ r
-        → cond p (cond q (cond r (answer (Done (length (text kind l))) (written (text kind l) 0 lent)) (answer (Refused 7) lent)) (answer (Refused 6) lent)) (answer (Refused 5) lent) ≡ answer (Done n) out
+        → cond p (cond q (cond r (answer (Ok (length (text kind l))) (written (text kind l) 0 lent)) (answer (Err 7) lent)) (answer (Err 6) lent)) (answer (Err 5) lent) ≡ answer (Ok n) out
         → Wrote kind l lent n out
     by true true true e f g h = record { low = known_low kind e; size = eqb-true _ _ f; room = eqb-true _ _ g; line_length = cc; bytes = cc }
     by true true false e f g h = let z : ◌≡◌ {A = ℕ} 0 1 = cc in absurd (omega arith)
@@ -33,16 +31,16 @@ wrote kind l lent out n = by (known kind) (eqb (length l) (payload_length kind))
     by false q r e f g h = let z : ◌≡◌ {A = ℕ} 0 1 = cc in absurd (omega arith)
 
 -- what is written is read back
-pub read_written : (kind : ℕ) (l lent out ten : List ℕ) (n : ℕ) → ((i : ℕ) → get_or l i 0 < 256) → length ten ≡ 10 → write kind l lent ≡ answer (Done n) out
-    → line (take n out) ten ≡ Line.answer (Frame kind) (l ++ drop (payload_length kind) ten)
+pub read_written : (kind : ℕ) (l lent out ten : List ℕ) (n : ℕ) → ((i : ℕ) → get_or l i 0 < 256) → length ten ≡ 10 → write kind l lent ≡ answer (Ok n) out
+    → line (take n out) ten ≡ Line.answer (Ok kind) (l ++ drop (payload_length kind) ten)
 unfolding written
 read_written kind l lent out ten n b h e =
     let w = wrote kind l lent out n e in
     rw (w.bytes, w.line_length, take-append_seam (text kind l) (drop (0 + length (text kind l)) lent)) (complete kind w.low l ten w.size b h)
 
 -- and what is read is written back
-pub written_read : (l ten left lent : List ℕ) (kind : ℕ) → length lent ≡ longest → line l ten ≡ Line.answer (Frame kind) left
-    → write kind (take (payload_length kind) left) lent ≡ answer (Done (length l)) (written l 0 lent)
+pub written_read : (l ten left lent : List ℕ) (kind : ℕ) → length lent ≡ longest → line l ten ≡ Line.answer (Ok kind) left
+    → write kind (take (payload_length kind) left) lent ≡ answer (Ok (length l)) (written l 0 lent)
 unfolding write
 written_read l ten left lent kind h e =
     let t = sound l ten left kind e in

@@ -1,22 +1,20 @@
 -- Laws of one line: what each operation's answer makes of it, how many bytes it prints, and how many lines it adds. Assumes nothing.
-use Rattle.std.specs.Prelude.{◌≡◌, refl, Bool, true, false, cond, List, [], ℕ, ◌+◌, ◌-◌, ◌≤◌, eqb, ltb, ℤ, pos, length, take, replicate}
+use Rattle.std.specs.Prelude.{◌≡◌, refl, Bool, true, false, cond, List, [], ℕ, ◌+◌, ◌≤◌, min, eqb, ltb, ℤ, pos, length, take, replicate, Result, Ok, Err}
 use Rattle.std.proofs.Math.Path.{ap, sym}
 use Rattle.std.proofs.Common.{◌∙◌, arith}
-use Rattle.std.proofs.Math.Nat.{sub-zero}
-use borrow.Author.Tests.{eq-eqb, ne_eqb, eqb-true, eqb-false}
+use borrow.Author.Tests.{eq-eqb, ne_eqb, eqb-true, eqb-false, ltb-true, ltb-false}
+use Rattle.refusal.specs.declared.Refusal.{Refusal}
+use Rattle.refusal.specs.Refusal.{number, numbered}
+use Rattle.refusal.specs.Laws.{nonzero}
+use Rattle.rule.specs.declared.Report.{Report}
 use Rattle.count.specs.declared.Counts.{Counts}
-use Rattle.count.specs.declared.Counted.{Counted}
-use Rattle.count.specs.declared.Counted.TheVariants as Count
 use Rattle.count.specs.Count.{count}
 use Rattle.count.specs.Laws.{refused_some}
-use Rattle.line.specs.declared.Read.{Read}
-use Rattle.line.specs.declared.Read.TheVariants as Read
 use Rattle.line.specs.Line as Line
 use Rattle.line.specs.Laws as LineLaws
 use Rattle.kind.specs.Kind.{payload_length}
 use Rattle.plc.specs.Kinds.{decide}
 use Rattle.rule.specs.Rule.{rules}
-use Rattle.decoder.specs.declared.Framed.{Framed}
 use Rattle.decoder.specs.Call as Frame
 use Rattle.decoder.specs.Laws.{frame_refused}
 use Rattle.print.specs.Print.{pcm, over, frame_least, frame_room}
@@ -32,42 +30,51 @@ unfolding stop given over
 stop_given b from code out e h = rw (e, h)
 
 -- a frame that is counted
-module _ (t b : List ℤ) (from : Progress) (next : Counts) (kind : ℕ) (payload : List ℕ) {f : Framed} {b' samples : List ℤ}
-    (hf : Frame.answer f b' samples ≡ Frame.frame t b kind payload (replicate 80 (pos 0))) {code : ℕ} (hc : code ≡ Frame.code f) where
-  pub step_refused : (out : List ℕ) {p : Progress} {w : ℕ} → (code ≡ 0 → ⊥) → p ≡ with_code from code → w ≡ 0
+module _ (t b : List ℤ) (from : Progress) (next : Counts) (kind : ℕ) (payload : List ℕ) {f : Result Report Refusal} {b' samples : List ℤ}
+    (hf : Frame.answer (numbered f) b' samples ≡ Frame.frame t b kind payload (replicate 80 (pos 0))) where
+  pub step_refused : (out : List ℕ) {r : Refusal} {p : Progress} {w : ℕ} → f ≡ Err r → p ≡ with_code from (number r) → w ≡ 0
       → answer (kept b' p) w out ≡ given (framed (kept b from) next (Frame.frame t b kind payload (replicate 80 (pos 0)))) out
   unfolding framed
-  step_refused out h e w =
-      let z : Frame.number (Frame.frame t b kind payload (replicate 80 (pos 0))) ≡ code = ap Frame.number (sym hf) ∙ sym hc in
-      let q : b' ≡ b = ap Frame.block hf ∙ (frame_refused t b kind payload (replicate 80 (pos 0)) (λ k. h (sym z ∙ k))).0 in
-      rw (z, ne_eqb code 0 h, q) (stop_given b from code out e w)
+  step_refused out {r} g e w =
+      let z : Frame.number (Frame.frame t b kind payload (replicate 80 (pos 0))) ≡ number r = ap Frame.number (sym hf) ∙ rw g in
+      let q : b' ≡ b = ap Frame.block hf ∙ (frame_refused t b kind payload (replicate 80 (pos 0)) (λ k. eqb-false (number r) 0 (nonzero r) (sym z ∙ k))).0 in
+      rw (z, nonzero r, q) (stop_given b from (number r) out e w)
 
-  pub step_done : (out₀ : List ℕ) {p : Progress} {w : ℕ} {out : List ℕ} → code ≡ 0 → p ≡ record { code = 0; lines = one_more from.lines; counts = next }
+  pub step_done : (out₀ : List ℕ) {x : Report} {p : Progress} {w : ℕ} {out : List ℕ} → f ≡ Ok x → p ≡ record { code = 0; lines = one_more from.lines; counts = next }
       → w ≡ length (pcm samples) → out ≡ over (pcm samples) out₀
       → answer (kept b' p) w out ≡ given (framed (kept b from) next (Frame.frame t b kind payload (replicate 80 (pos 0)))) out₀
   unfolding framed done given
-  step_done out₀ h e w o = rw (← hf, ← hc, eq-eqb code 0 h, e, w, o)
+  step_done out₀ h e w o = rw (← hf, h, e, w, o)
 
 -- the operation Count
-module _ (t : List ℤ) (job : Job) (kind : ℕ) (payload : List ℕ) {c : Counted} (hc : c ≡ count kind (rules (decide kind payload)) job.progress.counts) where
-  pub not_counted : {code : ℕ} → c ≡ Count.Refused code → frame_step t job kind payload ≡ stop job code
+module _ (t : List ℤ) (job : Job) (kind : ℕ) (payload : List ℕ) {c : Result Counts Refusal} (hc : numbered c ≡ count kind (rules (decide kind payload)) job.progress.counts) where
+  pub not_counted : {r : Refusal} → c ≡ Err r → frame_step t job kind payload ≡ stop job (number r)
   unfolding frame_step counted
   not_counted e = rw (← hc, e)
 
-  pub is_counted : {next : Counts} → c ≡ Count.Done next → frame_step t job kind payload ≡ framed job next (Frame.frame t job.block kind payload (replicate 80 (pos 0)))
+  pub is_counted : {next : Counts} → c ≡ Ok next → frame_step t job kind payload ≡ framed job next (Frame.frame t job.block kind payload (replicate 80 (pos 0)))
   unfolding frame_step counted
   is_counted e = rw (← hc, e)
 
 -- the operation Line
-module _ (t : List ℤ) (job : Job) (l : List ℕ) {r : Read} {bytes : List ℕ} where
-  pub not_line : {code : ℕ} → r ≡ Read.Refused code → Line.answer r bytes ≡ Line.line l (replicate 10 0) → line_step t job l ≡ stop job code
+module _ (t : List ℤ) (job : Job) (l : List ℕ) {a : Result ℕ Refusal} {bytes : List ℕ} where
+  pub not_line : {r : Refusal} → a ≡ Err r → Line.answer (numbered a) bytes ≡ Line.line l (replicate 10 0) → line_step t job l ≡ stop job (number r)
   unfolding line_step taken
   not_line h e = rw (← e, h)
 
-  pub is_line : {kind n : ℕ} → r ≡ Read.Frame kind → Line.answer r bytes ≡ Line.line l (replicate 10 0) → n ≡ payload_length kind
-      → line_step t job l ≡ frame_step t job kind (take (n - 0) bytes)
+  pub is_line : {kind n : ℕ} → a ≡ Ok kind → Line.answer (numbered a) bytes ≡ Line.line l (replicate 10 0) → n ≡ payload_length kind
+      → line_step t job l ≡ frame_step t job kind (take n bytes)
   unfolding line_step taken
-  is_line {n = n} h e k = rw (← e, h, ← k, sub-zero n)
+  is_line h e k = rw (← e, h, ← k)
+
+-- a number more, in the library's words
+pub saturated : (n : ℕ) → n ≤ 4294967295 → min (n + 1) 4294967295 ≡ one_more n
+unfolding one_more
+saturated n h = by (ltb n 4294967295) refl
+  where
+    by : (p : Bool) → ltb n 4294967295 ≡ p → min (n + 1) 4294967295 ≡ cond p (n + 1) n
+    by true e = omega (arith, ltb-true n 4294967295 e)
+    by false e = omega (arith, ltb-false n 4294967295 e)
 
 -- ---- what holds of a line, by the ways in which it ends
 
@@ -80,29 +87,29 @@ by_framed P job next a f g = by (eqb (Frame.number a) 0) refl
     by true e = g (eqb-true (Frame.number a) 0 e)
     by false e = f (eqb-false (Frame.number a) 0 e)
 
-pub by_counted : (P : Step → Type 0) (t : List ℤ) (job : Job) (kind : ℕ) (payload : List ℕ) → ((n : ℕ) → count kind (rules (decide kind payload)) job.progress.counts ≡ Count.Refused n → P (stop job n))
-    → ((next : Counts) → count kind (rules (decide kind payload)) job.progress.counts ≡ Count.Done next → P (framed job next (Frame.frame t job.block kind payload (replicate 80 (pos 0)))))
+pub by_counted : (P : Step → Type 0) (t : List ℤ) (job : Job) (kind : ℕ) (payload : List ℕ) → ((n : ℕ) → count kind (rules (decide kind payload)) job.progress.counts ≡ Err n → P (stop job n))
+    → ((next : Counts) → count kind (rules (decide kind payload)) job.progress.counts ≡ Ok next → P (framed job next (Frame.frame t job.block kind payload (replicate 80 (pos 0)))))
     → P (frame_step t job kind payload)
 unfolding frame_step counted
 by_counted P t job kind payload f g = by (count kind (rules (decide kind payload)) job.progress.counts) refl
   where
-    by : (c : Counted) → count kind (rules (decide kind payload)) job.progress.counts ≡ c → P (counted t job kind payload c)
-    by (Count.Refused n) e = f n e
-    by (Count.Done next) e = g next e
+    by : (c : Result Counts ℕ) → count kind (rules (decide kind payload)) job.progress.counts ≡ c → P (counted t job kind payload c)
+    by (Err n) e = f n e
+    by (Ok next) e = g next e
 
-pub by_line : (P : Step → Type 0) (t : List ℤ) (job : Job) (l : List ℕ) → ((n : ℕ) (bytes : List ℕ) → Line.line l (replicate 10 0) ≡ Line.answer (Read.Refused n) bytes → P (stop job n))
-    → ((kind : ℕ) (bytes : List ℕ) → Line.line l (replicate 10 0) ≡ Line.answer (Read.Frame kind) bytes → P (frame_step t job kind (take (payload_length kind) bytes)))
+pub by_line : (P : Step → Type 0) (t : List ℤ) (job : Job) (l : List ℕ) → ((n : ℕ) (bytes : List ℕ) → Line.line l (replicate 10 0) ≡ Line.answer (Err n) bytes → P (stop job n))
+    → ((kind : ℕ) (bytes : List ℕ) → Line.line l (replicate 10 0) ≡ Line.answer (Ok kind) bytes → P (frame_step t job kind (take (payload_length kind) bytes)))
     → P (line_step t job l)
 unfolding line_step taken
 by_line P t job l f g = by (Line.line l (replicate 10 0)) refl
   where
     by : (a : Line.Answer) → Line.line l (replicate 10 0) ≡ a → P (taken t job a)
-    by (Line.answer (Read.Refused n) bytes) e = f n bytes e
-    by (Line.answer (Read.Frame kind) bytes) e = g kind bytes e
+    by (Line.answer (Err n) bytes) e = f n bytes e
+    by (Line.answer (Ok kind) bytes) e = g kind bytes e
 
 -- refused with a number that is not 0, or done
 pub by_step : (P : Step → Type 0) (t : List ℤ) (job : Job) (l : List ℕ) → ((n : ℕ) → (n ≡ 0 → ⊥) → P (stop job n))
-    → ((kind : ℕ) (payload : List ℕ) (next : Counts) → count kind (rules (decide kind payload)) job.progress.counts ≡ Count.Done next → P (done job next (Frame.frame t job.block kind payload (replicate 80 (pos 0)))))
+    → ((kind : ℕ) (payload : List ℕ) (next : Counts) → count kind (rules (decide kind payload)) job.progress.counts ≡ Ok next → P (done job next (Frame.frame t job.block kind payload (replicate 80 (pos 0)))))
     → P (line_step t job l)
 by_step P t job l f g =
     by_line P t job l

@@ -1,10 +1,7 @@
 -- One line of a call (01, "The call text and the program"): the operations Line, Count and Frame, in this order, and what is printed for it.
-use Rattle.std.specs.Prelude.{cond, List, [], ℕ, ◌+◌, eqb, ltb, ℤ, pos, length, take, replicate}
+use Rattle.std.specs.Prelude.{cond, List, [], ℕ, ◌+◌, eqb, ltb, ℤ, pos, length, take, replicate, Result, Ok, Err}
 use Rattle.count.specs.declared.Counts.{Counts}
-use Rattle.count.specs.declared.Counted.{Counted}
-use Rattle.count.specs.declared.Counted.TheVariants as Count
 use Rattle.count.specs.Count.{count}
-use Rattle.line.specs.declared.Read.TheVariants as Read
 use Rattle.line.specs.Line as Line
 use Rattle.kind.specs.Kind.{payload_length}
 use Rattle.plc.specs.Kinds.{decide}
@@ -47,9 +44,9 @@ unfoldable pub framed : Job → Counts → Frame.Answer → Step
 framed job next a = cond (eqb (Frame.number a) 0) (done job next a) (stop job (Frame.number a))
 
 -- Count's answer, for a frame of this kind and payload
-unfoldable pub counted : List ℤ → Job → ℕ → List ℕ → Counted → Step
-counted t job kind payload (Count.Refused code) = stop job code
-counted t job kind payload (Count.Done next) = framed job next (Frame.frame t job.block kind payload (replicate 80 (pos 0)))
+unfoldable pub counted : List ℤ → Job → ℕ → List ℕ → Result Counts ℕ → Step
+counted t job kind payload (Err code) = stop job code
+counted t job kind payload (Ok next) = framed job next (Frame.frame t job.block kind payload (replicate 80 (pos 0)))
 
 -- the rules are a function of kind and payload, so that a frame is counted before it is decoded; Frame hands up the same (`same_rules` of crate same_delays)
 unfoldable pub frame_step : List ℤ → Job → ℕ → List ℕ → Step
@@ -57,8 +54,8 @@ frame_step t job kind payload = counted t job kind payload (count kind (rules (d
 
 -- Line's answer, with the payload at the front of ten bytes
 unfoldable pub taken : List ℤ → Job → Line.Answer → Step
-taken t job (Line.answer (Read.Refused code) bytes) = stop job code
-taken t job (Line.answer (Read.Frame kind) bytes) = frame_step t job kind (take (payload_length kind) bytes)
+taken t job (Line.answer (Err code) bytes) = stop job code
+taken t job (Line.answer (Ok kind) bytes) = frame_step t job kind (take (payload_length kind) bytes)
 
 -- one line, without its line feed
 unfoldable pub line_step : List ℤ → Job → List ℕ → Step

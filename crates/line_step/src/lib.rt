@@ -6,11 +6,11 @@ ghost use Rattle.decoder.specs.Call.{frame};
 ghost use Rattle.print.specs.Print.{frame_room};
 ghost use Rattle.line_step.specs.Step.{kept, one_more, with_code, Answer, given, framed, frame_step, line_step};
 
-use count::{Counted, Counts};
-use line::Read;
+use count::Counts;
 use print::FRAME_ROOM;
 
 // How far a call is: 0 while it goes on, else the number of the refusal that ended it; the lines that were taken; and the counts.
+// The code is a number and no Option: the definitions answer refusals by 01's numbers, and the theorems on whole calls (crate whole_call: `printed_ended`, `Ending`) speak of it.
 #[derive(Clone, Copy)]
 pub struct Progress {
     pub code: u32,
@@ -29,27 +29,26 @@ pub struct Stepped {
 pub fn one_more(n: u32) -> u32
     ensures { result ≡ one_more n }
 {
-    if n < 4294967295 { n + 1 } else { n }
+    n.saturating_add(1)
 }
 
-// The lines and counts as they are, with another code.
-pub fn with_code(p: Progress, code: u32) -> Progress
-    ensures { result ≡ with_code p code }
-{
-    let counts = p.counts;
-    Progress {
-        code,
-        lines: p.lines,
-        counts,
+impl Progress {
+    // The lines and counts as they are, with another code.
+    pub fn with_code(self, code: u32) -> Progress
+        ensures { result ≡ with_code self code }
+    {
+        Progress { code, ..self }
     }
 }
 
-// A line that is refused prints nothing.
+// A line that is refused prints nothing. (delay_step has one like it: what both keep and print differs, and so do their definitions.)
 fn stopped(p: Progress, code: u32) -> Stepped
     ensures { (result.job ≡ with_code p code) × (result.written ≡ 0) }
 {
-    let job = with_code(p, code);
-    Stepped { job, written: 0 }
+    Stepped {
+        job: p.with_code(code),
+        written: 0,
+    }
 }
 
 // A frame that was counted, with the counts that it leads to: it is decoded and printed.
@@ -66,17 +65,18 @@ fn counted_step(
     ensures written_le_frame_room { result.written ≤ frame_room }
 {
     let mut samples = [0i16; 80];
-    let code = decoder::code(decoder::frame(t, b, kind, payload, &mut samples));
-    if code != 0 {
-        return stopped(from, code);
+    match decoder::frame(t, b, kind, payload, &mut samples) {
+        Err(r) => stopped(from, r.number()),
+        Ok(_) => {
+            let job = Progress {
+                code: 0,
+                lines: one_more(from.lines),
+                counts: next,
+            };
+            let written = print::pcm(&samples, out);
+            Stepped { job, written }
+        }
     }
-    let job = Progress {
-        code: 0,
-        lines: one_more(from.lines),
-        counts: next,
-    };
-    let written = print::pcm(&samples, out);
-    Stepped { job, written }
 }
 
 // One frame: the operations Count, with the rules that Frame will hand up, and Frame, in this order. The first refusal is answered, with lines and counts as they were; else 0 with the line taken
@@ -92,11 +92,9 @@ pub fn frame_step(
     ensures out_after { Answer.answer (kept b.new result.job) result.written out.new ≡ given (frame_step t.now (kept b.old from) kind payload.now) out.old }
     ensures written_le_frame_room { result.written ≤ frame_room }
 {
-    let counts = from.counts;
-    let answer = count::count(kind, rule::frame_rules(kind, payload), counts);
-    match answer {
-        Counted::Refused(code) => stopped(from, code),
-        Counted::Done(next) => counted_step(t, b, from, next, kind, payload, out),
+    match count::count(kind, rule::frame_rules(kind, payload), from.counts) {
+        Err(refused) => stopped(from, refused.number()),
+        Ok(next) => counted_step(t, b, from, next, kind, payload, out),
     }
 }
 
@@ -112,12 +110,11 @@ pub fn line_step(
     ensures written_le_frame_room { result.written ≤ frame_room }
 {
     let mut payload = [0u8; 10];
-    let answer = line::line(text, &mut payload);
-    match answer {
-        Read::Refused(code) => stopped(from, code),
-        Read::Frame(kind) => {
+    match line::line(text, &mut payload) {
+        Err(r) => stopped(from, r.number()),
+        Ok(kind) => {
             let n = kind::payload_length(kind);
-            frame_step(t, b, from, kind, &payload[0..n], out)
+            frame_step(t, b, from, kind, &payload[..n], out)
         }
     }
 }

@@ -81,7 +81,7 @@ fn polynomial(q1: i16, q2: i16, q3: i16, q4: i16, q5: i16) -> [i32; 6]
     [unit, e1, e2, e3, e4, e5]
 }
 
-// Equation (25).
+// Equation (25): the sum for F1, the difference for F2. One function of both would take the operator, and its contract too.
 fn f1_prime(f1: [i32; 6], i: usize) -> i32
     requires { (0 < i) × (i < 6) }
     ensures { result ≡ f1_prime f1 i }

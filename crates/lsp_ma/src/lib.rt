@@ -18,7 +18,8 @@ fn add_past(past: &[[i16; 10]; 4], weights: &[[i16; 10]; 4], i: usize, sum: i32)
     total
 }
 
-// The past terms of word i, in order of age, subtracted from a sum.
+// The past terms of word i, in order of age, subtracted from a sum. A twin of `add_past` but for the operator: as a parameter it would put a
+// function into both contracts, and the definitions of the two equations are apart.
 fn subtract_past(past: &[[i16; 10]; 4], weights: &[[i16; 10]; 4], i: usize, sum: i32) -> i32
     requires { i < 10 }
     ensures { result ≡ subtract_past past.now weights.now i sum }

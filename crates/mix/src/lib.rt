@@ -6,8 +6,11 @@ ghost use Rattle.std.specs.Prelude.{◌≡◌, ◌+◌, ◌*◌, ◌%◌, ◌≤
 ghost use Rattle.std.proofs.Math.Seq.{paste};
 ghost use Rattle.laws.specs.Lists.{at, tab};
 ghost use Rattle.basic_op.specs.Ops.{sat16};
+ghost use Rattle.refusal.specs.Refusal.{code};
 ghost use Rattle.mix.specs.Mix.{sum, legs_of, mix, joined, refusal, Mixed, mix_call};
 ghost use Rattle.mix.specs.Laws.{Within, SamplesAt};
+
+use refusal::Refusal;
 
 // The samples of a leg, and those of eight.
 const FRAME: usize = 80;
@@ -15,18 +18,17 @@ const FRAME: usize = 80;
 const MOST: usize = 640;
 
 // What is refused before a sample is looked at: 19 not 1 to 8 whole legs, 7 not as many results as samples.
-fn refusal(legs: usize, heard: usize) -> u32
-    ensures { result ≡ refusal legs heard }
+fn check(legs: usize, heard: usize) -> Result<(), Refusal>
+    ensures { code result ≡ refusal legs heard }
 {
     let whole = (legs % FRAME == 0) & (FRAME <= legs) & (legs <= MOST);
-    let equal = heard == legs;
     if !whole {
-        return 19;
+        return Err(Refusal::LegsLength);
     }
-    if !equal {
-        return 7;
+    if heard != legs {
+        return Err(Refusal::OutputLength);
     }
-    0
+    Ok(())
 }
 
 // A sum of up to seven samples and one more.
@@ -89,14 +91,11 @@ fn each(total: &[i32; FRAME], legs: &[i16], heard: &mut [i16])
 }
 
 // For each leg the sum of all the others, limited to 16 bits. Refusals 19, 7, which leave `heard` as it was.
-pub fn mix(legs: &[i16], heard: &mut [i16]) -> u32
-    ensures { Mixed.mixed result heard.new ≡ mix_call legs.now heard.old }
+pub fn mix(legs: &[i16], heard: &mut [i16]) -> Result<(), Refusal>
+    ensures { Mixed.mixed (code result) heard.new ≡ mix_call legs.now heard.old }
 {
-    let code = refusal(legs.len(), heard.len());
-    if code != 0 {
-        return code;
-    }
+    check(legs.len(), heard.len())?;
     let total = sums(legs);
     each(&total, legs, heard);
-    0
+    Ok(())
 }

@@ -1,25 +1,34 @@
--- What the proofs use of these definitions. Assumes nothing.
-use Rattle.std.specs.Prelude.{◌≡◌, List, ◌∷◌, ℕ, suc, ◌+◌, ◌-◌, ◌<◌, ◌≤◌, length, get_or}
-use Rattle.std.proofs.Common.{arith, add-one, eq-eqb, ne_eqb}
-use Rattle.std.proofs.Math.Seq.{drop-cons}
+-- What the proofs use of these definitions: the first place of a byte is the one that std's `position` finds. Assumes nothing.
+use Rattle.std.specs.Prelude.{◌≡◌, refl, Bool, true, false, cond, not, List, [], ◌∷◌, ℕ, ◌+◌, ◌-◌, ◌≤◌, length, eqb, ltb, Option, Some, None}
+use Rattle.std.proofs.Common.{arith, ltb-false, length-take, length-drop}
+use Rattle.std.specs.List.{position_or_len}
 use Rattle.octets.specs.Octets.{slice, index_after, index_of}
 
--- the bytes from place i on begin with the i-th
-slice_step : (l : List ℕ) (i to : ℕ) → i < to → to ≤ length l → slice i to l ≡ get_or l i 0 ∷ slice (i + 1) to l
+after_is : (here : Bool) (m n : ℕ) → m ≡ n → index_after here m ≡ cond (not here) (1 + n) 0
+unfolding index_after
+after_is true m n e = refl
+after_is false m n e = omega arith
+
+pub index_is : (x : ℕ) (l : List ℕ) → index_of x l ≡ position_or_len (λ b. eqb b x) l
+unfolding index_of
+index_is x [] = refl
+index_is x (b ∷ l) = after_is (eqb b x) _ _ (index_is x l)
+
+pub length_slice : (from to : ℕ) (l : List ℕ) → from ≤ to → to ≤ length l → length (slice from to l) ≡ to - from
 unfolding slice
-slice_step l i to h k = let n : to - i ≡ suc (to - (i + 1)) = omega arith in let m : i < length l = omega arith in rw (n, add-one, drop-cons l i 0)
+length_slice from to l h k = simp (length-take, length-drop) (omega arith)
 
--- one that is passed
-pub passed : (x : ℕ) (l : List ℕ) (i to : ℕ) → i < to → to ≤ length l → (get_or l i 0 ≡ x → ⊥) → i + index_of x (slice i to l) ≡ (i + 1) + index_of x (slice (i + 1) to l)
-unfolding index_of index_after
-passed x l i to h k n = rw (slice_step l i to h k, ne_eqb (get_or l i 0) x n) (omega arith)
+-- the call's result, by what it says of it
+pub found : (p m n : ℕ) (r : Option ℕ) → r ≡ cond (ltb p m) (Some p) None → r ≡ Some n → n ≡ p
+found p m n r e s = go (ltb p m) e
+  where
+    go : (t : Bool) → r ≡ cond t (Some p) None → n ≡ p
+    go true e = cc
+    go false e = cc
 
--- one that is it
-pub stands : (x : ℕ) (l : List ℕ) (i to : ℕ) → i < to → to ≤ length l → get_or l i 0 ≡ x → i ≡ i + index_of x (slice i to l)
-unfolding index_of index_after
-stands x l i to h k e = rw (slice_step l i to h k, eq-eqb (get_or l i 0) x e) (omega arith)
-
--- none is left
-pub nothing : (x : ℕ) (l : List ℕ) (i : ℕ) → i ≡ i + index_of x (slice i i l)
-unfolding slice index_of
-nothing x l i = let z : i - i ≡ 0 = omega arith in rw z (omega arith)
+pub missed : (p m : ℕ) (r : Option ℕ) → r ≡ cond (ltb p m) (Some p) None → r ≡ None → m ≤ p
+missed p m r e s = go (ltb p m) refl e
+  where
+    go : (t : Bool) → ltb p m ≡ t → r ≡ cond t (Some p) None → m ≤ p
+    go true q e = cc
+    go false q e = ltb-false p m q

@@ -10,12 +10,8 @@ pub fn copy(from: &[u8], to: &mut [u8]) -> usize
     ensures count { result ≡ length from.now }
     ensures written { to.new ≡ take (length from.now) from.now ++ drop (length from.now) to.old }
 {
-    let mut i = 0;
-    while i < from.len() {
-        to[i] = from[i];
-        i += 1;
-    }
-    i
+    to[..from.len()].copy_from_slice(from);
+    from.len()
 }
 
 // The first place from `from` on, and before `to`, at which `bytes` has the byte x; `to` where there is none.
@@ -25,12 +21,8 @@ pub fn find(bytes: &[u8], from: usize, to: usize, x: u8) -> usize
     ensures place { result ≡ from + index_of x (slice from to bytes.now) }
     ensures before { result ≤ to }
 {
-    let mut i = from;
-    while i < to {
-        if bytes[i] == x {
-            return i;
-        }
-        i += 1;
+    match bytes[from..to].iter().position(|b| *b == x) {
+        Some(n) => from + n,
+        None => to,
     }
-    to
 }

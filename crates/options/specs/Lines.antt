@@ -1,9 +1,10 @@
 -- Whole lines of `decode`, which takes at most one operand, and of `resume`, which takes three or four: what they ask for, and which argument says so. Assumes nothing.
-use Rattle.std.specs.Prelude.{◌≡◌, refl, List, [], ◌∷◌, ℕ, ◌+◌}
+use Rattle.std.specs.Prelude.{◌≡◌, refl, List, [], ◌∷◌, ℕ, ◌+◌, Option, None, Some}
 use Rattle.laws.specs.Bytes.{same}
 use Rattle.text.specs.Text.{ascii}
 use Rattle.options.specs.declared.Asked.{Asked}
-use Rattle.options.specs.Options.{run, help, version, file, twice, unknown, many, few, unfit, none, settled, no_path, decided, with_tables, with_operand, option, next, ended}
+use Rattle.options.specs.declared.What.TheVariants.{Run}
+use Rattle.options.specs.Options.{run, help, version, file, twice, unknown, many, few, unfit, number, none, settled, no_path, with_operand, option, next, ended}
 
 -- from argument i on
 unfoldable words : Asked → ℕ → ℕ → List (List ℕ) → Asked
@@ -12,7 +13,7 @@ words a most i (w ∷ l) = words (next a most i w) most (i + 1) l
 
 -- the program's name is argument 0
 unfoldable asked : ℕ → ℕ → List (List ℕ) → Asked
-unfolding same none settled no_path decided with_tables with_operand option next ended words
+unfolding same settled no_path with_operand option next words
 asked least most l = ended (words none most 1 l) least
 
 abbrev decode : List (List ℕ) → Asked
@@ -27,22 +28,27 @@ nothing : decode [] ≡ none
 unfolding asked
 nothing = refl
 
-tables_first : decode (ascii "--tables" ∷ ascii "t" ∷ ascii "c" ∷ []) ≡ record { what = run; word = 3; tables = 2; operands = 1; first = 3; second = 0; third = 0; fourth = 0 }
+tables_first : decode (ascii "--tables" ∷ ascii "t" ∷ ascii "c" ∷ []) ≡ record { what = Run; word = Some 3; tables = Some 2; operands = 1; first = Some 3; second = None; third = None; fourth = None }
 unfolding asked
 tables_first = refl
 
-tables_last : decode (ascii "c" ∷ ascii "--tables" ∷ ascii "t" ∷ []) ≡ record { what = run; word = 3; tables = 3; operands = 1; first = 1; second = 0; third = 0; fourth = 0 }
+tables_last : decode (ascii "c" ∷ ascii "--tables" ∷ ascii "t" ∷ []) ≡ record { what = Run; word = Some 3; tables = Some 3; operands = 1; first = Some 1; second = None; third = None; fourth = None }
 unfolding asked
 tables_last = refl
 
-with_frames : resume (ascii "c" ∷ ascii "s" ∷ ascii "o" ∷ ascii "9" ∷ []) ≡ record { what = run; word = 4; tables = 0; operands = 4; first = 1; second = 2; third = 3; fourth = 4 }
+with_frames : resume (ascii "c" ∷ ascii "s" ∷ ascii "o" ∷ ascii "9" ∷ []) ≡ record { what = Run; word = Some 4; tables = None; operands = 4; first = Some 1; second = Some 2; third = Some 3; fourth = Some 4 }
 unfolding asked
 with_frames = refl
 
 -- ---- what is asked for or is wrong, and the argument that decides it
 
+-- 0 is no argument's number here
+abbrev place : Option ℕ → ℕ
+place None = 0
+place (Some i) = i
+
 abbrev decides : Asked → List ℕ
-decides a = a.what ∷ a.word ∷ []
+decides a = number a.what ∷ place a.word ∷ []
 
 no_file : decides (decode (ascii "c" ∷ ascii "--tables" ∷ [])) ≡ file ∷ 2 ∷ []
 unfolding asked

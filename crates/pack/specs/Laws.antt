@@ -1,10 +1,9 @@
 -- Laws of writing: fields and bytes are one number cut in two ways, so one law on cutting serves both; a frame written by its halves. Assumes nothing.
 use Rattle.std.specs.Prelude.{◌≡◌, refl, Bool, true, false, cond, ◌&&◌, List, [], ◌∷◌, ◌++◌, ℕ, zero, suc, ◌+◌, ◌-◌, ◌*◌, ◌/◌, ◌%◌, ◌^◌, ◌≤◌, ◌<◌, T, ltb, eqb, length, get_or, take, drop}
-use Rattle.std.proofs.Common.{sym, ap, ap₂, ◌∙◌, subst, append-nil, arith, mod-lt, mod-eq_of_lt, lit<, ltb→lt, lt→ltb, pow_pos, pow-add, drop_of_length-le, length-drop, take_all, drop-cons, eq-eqb, eqb-true}
+use Rattle.std.proofs.Common.{sym, ap, ap₂, ◌∙◌, subst, arith, mod-lt, mod-eq_of_lt, lit<, ltb→lt, lt→ltb, pow_pos, pow-add, length-drop, take_all, drop-cons, eq-eqb, eqb-true}
 use Rattle.std.proofs.Math.Bool.{and_assoc, and-true}
 use Rattle.std.proofs.Math.Pow.{high, low}
 use Rattle.std.proofs.lemmas.Nat.{mod-pow-add}
-use Rattle.std.proofs.Math.Seq.{take-length}
 use Rattle.std.proofs.Math.Facts.{and_yes, yes_and}
 use Rattle.bitstream.specs.Fields.{number, bits, widths, sum, cut, fields, answer}
 use Rattle.bitstream.specs.declared.SpeechParams.{SpeechParams}
@@ -150,10 +149,6 @@ pub second_lt : (p : SpeechParams) → T (fits widths (listed p)) → joined (dr
 unfolding widths sum
 second_lt p t = joined_lt (drop 7 widths) (drop 7 (listed p)) (fits_drop 7 widths (listed p) t)
 
--- a whole list copied over one of its length, as `octets::copy` leaves it
-pub copied : (v lent out : List ℕ) → length v ≡ length lent → out ≡ take (length v) v ++ drop (length v) lent → out ≡ v
-copied v lent out h e = rw (e, take-length, drop_of_length-le lent {i = length v} (omega arith), append-nil)
-
 -- n numbers of a list from place k on, one by one
 unfoldable pub cells : ℕ → ℕ → List ℕ → List ℕ
 cells zero k l = []
@@ -198,6 +193,15 @@ right n due bytes = by (eqb n due) (eqb (length bytes) 10) refl refl
 pub taken : (n due : ℕ) (fs bytes : List ℕ) → Right n due bytes → write_call n due fs bytes ≡ packed fs bytes
 unfolding write_call
 taken n due fs bytes r = rw (eq-eqb _ _ r.many, eq-eqb _ _ r.ten)
+
+-- the fields count where as many as are due are lent
+pub by_due : (n due : ℕ) (bytes : List ℕ) {fs gs : List ℕ} → (n ≡ due → fs ≡ gs) → write_call n due fs bytes ≡ write_call n due gs bytes
+unfolding write_call
+by_due n due bytes {fs} {gs} h = by (eqb n due) refl
+  where
+    by : (p : Bool) → eqb n due ≡ p → cond p (cond (eqb (length bytes) 10) (packed fs bytes) (answer 6 bytes)) (answer 8 bytes) ≡ cond p (cond (eqb (length bytes) 10) (packed gs bytes) (answer 6 bytes)) (answer 8 bytes)
+    by true e = rw (h (eqb-true _ _ e))
+    by false e = refl
 
 -- ---- the fields that the code reads one by one
 

@@ -3,10 +3,12 @@
 
 ghost use Rattle.std.specs.Prelude.{◌≡◌, [], ◌∷◌, ◌++◌, ◌+◌, ◌*◌, ◌^◌, ◌≤◌, ◌<◌, length, get_or, take, drop};
 ghost use Rattle.bitstream.specs.Fields.{bits, widths, cut, Answer};
-ghost use Rattle.pack.specs.Pack.{joined, fits, octets, parity_bit, packed, write_fields, write_fields_parity};
+ghost use Rattle.refusal.specs.Refusal.{code};
+ghost use Rattle.pack.specs.Pack.{joined, fits, octets, parity_bit, packed, write_call, write_fields, write_fields_parity};
 ghost use Rattle.pack.specs.Laws.{listed, cells, lengths};
 
 use bitstream::SpeechParams;
+use refusal::Refusal;
 
 // Whether no field exceeds its width.
 fn fits(p: SpeechParams) -> bool
@@ -72,39 +74,38 @@ fn bytes_of(a: u64, b: u64) -> [u8; 10]
     ]
 }
 
-// The frame of fields that fit goes to ten bytes. 15 where a field exceeds its width.
-fn packed(p: SpeechParams, bytes: &mut [u8]) -> u32
+// The frame of fields that fit goes to ten bytes. Refusal 15.
+fn packed(p: SpeechParams, bytes: &mut [u8]) -> Result<(), Refusal>
     requires { length bytes.old ≡ 10 }
-    ensures { Answer.answer result bytes.new ≡ packed (listed p) bytes.old }
+    ensures { Answer.answer (code result) bytes.new ≡ packed (listed p) bytes.old }
 {
     if !fits(p) {
-        return 15;
+        return Err(Refusal::FieldWidth);
     }
     let a = first_half(p.l0, p.l1, p.l2, p.l3, p.p1, p.p0, p.c1);
     let b = second_half(p.s1, p.ga1, p.gb1, p.p2, p.c2, p.s2, p.ga2, p.gb2);
-    let v = bytes_of(a, b);
-    octets::copy(&v, bytes);
-    0
+    bytes.copy_from_slice(&bytes_of(a, b));
+    Ok(())
 }
 
 // What both calls refuse before they look at any field: 8 where `n` fields are lent and not `due`, 6 where there are not ten bytes.
-fn lengths(n: usize, due: usize, bytes: usize) -> u32
-    ensures { result ≡ lengths n due bytes }
+fn lengths(n: usize, due: usize, bytes: usize) -> Result<(), Refusal>
+    ensures { code result ≡ lengths n due bytes }
 {
     if n != due {
-        return 8;
+        return Err(Refusal::ReceiverLength);
     }
     if bytes != 10 {
-        return 6;
+        return Err(Refusal::PayloadLength);
     }
-    0
+    Ok(())
 }
 
 // Field `k` of a list; 0 past its end.
 fn field(fields: &[u16], k: usize) -> u16
     ensures { result ≡ get_or fields.now k 0 }
 {
-    if k < fields.len() { fields[k] } else { 0 }
+    fields.get(k).copied().unwrap_or(0)
 }
 
 // The struct of fields lent in the order of their bits, with this P0; those behind it stand from place `behind` on.
@@ -131,15 +132,26 @@ fn params(fields: &[u16], p0: u16, behind: usize) -> SpeechParams
     }
 }
 
-// Writes a frame from fifteen fields, in the order of their bits. Refusals 8, 6, 15.
-pub fn write_fields(fields: &[u16], bytes: &mut [u8]) -> u32
-    ensures { Answer.answer result bytes.new ≡ write_fields fields.now bytes.old }
+// Writes a frame where `due` fields are lent: with this P0, and those behind it from place `behind` on.
+fn write(
+    fields: &[u16],
+    due: usize,
+    p0: u16,
+    behind: usize,
+    bytes: &mut [u8],
+) -> Result<(), Refusal>
+    requires { behind ≤ 6 }
+    ensures { Answer.answer (code result) bytes.new ≡ write_call (length fields.now) due (cells 5 0 fields.now ++ (p0 ∷ cells 9 behind fields.now)) bytes.old }
 {
-    let code = lengths(fields.len(), 15, bytes.len());
-    if code != 0 {
-        return code;
-    }
-    packed(params(fields, field(fields, 5), 6), bytes)
+    lengths(fields.len(), due, bytes.len())?;
+    packed(params(fields, p0, behind), bytes)
+}
+
+// Writes a frame from fifteen fields, in the order of their bits. Refusals 8, 6, 15.
+pub fn write_fields(fields: &[u16], bytes: &mut [u8]) -> Result<(), Refusal>
+    ensures { Answer.answer (code result) bytes.new ≡ write_fields fields.now bytes.old }
+{
+    write(fields, 15, field(fields, 5), 6, bytes)
 }
 
 // Clause 3.7.2: the P0 with which P1 passes parity.
@@ -150,12 +162,8 @@ fn parity_bit(p1: u16) -> u16
 }
 
 // Writes a frame from fourteen fields: P0 is left out, and supplied so that parity passes. Refusals 8, 6, 15.
-pub fn write_fields_parity(fields: &[u16], bytes: &mut [u8]) -> u32
-    ensures { Answer.answer result bytes.new ≡ write_fields_parity fields.now bytes.old }
+pub fn write_fields_parity(fields: &[u16], bytes: &mut [u8]) -> Result<(), Refusal>
+    ensures { Answer.answer (code result) bytes.new ≡ write_fields_parity fields.now bytes.old }
 {
-    let code = lengths(fields.len(), 14, bytes.len());
-    if code != 0 {
-        return code;
-    }
-    packed(params(fields, parity_bit(field(fields, 4)), 5), bytes)
+    write(fields, 14, parity_bit(field(fields, 4)), 5, bytes)
 }

@@ -1,5 +1,5 @@
 -- Laws of a payload text's lines: the digits of a frame are a part of the line, and what each test of the code says. Assumes nothing.
-use Rattle.std.specs.Prelude.{◌≡◌, refl, Bool, true, false, cond, ◌||◌, length, take, drop}
+use Rattle.std.specs.Prelude.{◌≡◌, refl, Bool, true, false, cond, ◌||◌, length, take, drop, Result, Ok, Err, is_ok}
 use Rattle.std.proofs.Common.{sym, subst, ◌∙◌, arith, add-one, length-append, length-take, length-drop}
 use Rattle.std.proofs.Math.Path.{ap}
 use mathlib.Core.List.{List, ◌++◌, append_assoc}
@@ -8,7 +8,8 @@ use Rattle.std.proofs.Math.Seq.{take-append_seam}
 use borrow.Author.Tests.{eq-eqb, ne_eqb, lt-ltb, le-ltb}
 use Rattle.text.specs.Text.{ascii, Put}
 use Rattle.text.specs.Laws.{then, nothing}
-use Rattle.line.specs.declared.Read.TheVariants.{Refused, Frame}
+use Rattle.refusal.specs.declared.Refusal.{Refusal}
+use Rattle.refusal.specs.Refusal.{numbered}
 use Rattle.line.specs.Line as Line
 use Rattle.line.specs.Line.{hex, opening, closing, form, text, bytes, is_hex, is, took, line}
 use Rattle.line.specs.Laws.{hex_take, hex_drop, hex_same, length_bytes}
@@ -118,15 +119,20 @@ form_fits s lent e f = rw (e, f) (simp length-append (omega arith))
 -- ---- lines of a call
 
 unfoldable pub is_frame : Line.Answer → Bool
-is_frame (Line.answer (Refused n) out) = false
-is_frame (Line.answer (Frame kind) out) = true
+is_frame (Line.answer (Err n) out) = false
+is_frame (Line.answer (Ok kind) out) = true
+
+pub tells_ok : (a : Result ℕ Refusal) (bytes : List ℕ) → is_ok a ≡ is_frame (Line.answer (numbered a) bytes)
+unfolding is_frame
+tells_ok (Ok kind) bytes = refl
+tells_ok (Err r) bytes = refl
 
 pub line_tells : (t lent : List ℕ) → length lent ≡ 10 → is_frame (line t lent) ≡ is_line t
 unfolding line is_line took is_frame
 line_tells t lent h = rw (eq-eqb _ _ h) (by (is 0 t) (is 1 t) (is 2 t) (is 3 t))
   where
     by : (a b c d : Bool)
-        → is_frame (cond a (took 0 t lent) (cond b (took 1 t lent) (cond c (took 2 t lent) (cond d (took 3 t lent) (Line.answer (Refused 9) lent))))) ≡ a || (b || (c || d))
+        → is_frame (cond a (took 0 t lent) (cond b (took 1 t lent) (cond c (took 2 t lent) (cond d (took 3 t lent) (Line.answer (Err 9) lent))))) ≡ a || (b || (c || d))
     by true b c d = refl
     by false true c d = refl
     by false false true d = refl

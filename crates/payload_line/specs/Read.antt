@@ -1,10 +1,9 @@
 -- How Line reads what is printed: the claims of Lines.antt, proved. Assumes nothing.
-use Rattle.std.specs.Prelude.{◌≡◌, refl, List, [], ◌∷◌, ◌++◌, ℕ, zero, suc, ◌+◌, ◌/◌, ◌<◌, length, get_or, take, drop}
+use Rattle.std.specs.Prelude.{◌≡◌, refl, List, [], ◌∷◌, ◌++◌, ℕ, zero, suc, ◌+◌, ◌/◌, ◌<◌, length, get_or, take, drop, Ok, Err}
 use Rattle.std.proofs.Common.{arith, get_or-drop, eq-eqb}
 use Rattle.laws.specs.Bytes.{same}
 use Rattle.laws.specs.Digits.{value_lt}
 use Rattle.kind.specs.Kind.{payload_length}
-use Rattle.line.specs.declared.Read.TheVariants.{Refused, Frame}
 use Rattle.line.specs.Line as Line
 use Rattle.line.specs.Line.{opening, form, text, bytes, is_form, is, line}
 use Rattle.line.specs.Laws.{complete}
@@ -52,7 +51,7 @@ unfolding payload
 payload_small t i = bytes_small (length t / 2) t i
 
 frame_read_proof : (t s ten : List ℕ) (k : ℕ) → (find (length (payload t)) k).code ≡ 0 → ended s ≡ frame_line (payload t) k → length ten ≡ 10
-    → line s ten ≡ Line.answer (Frame (find (length (payload t)) k).kind) (part (payload t) k ++ drop (length (part (payload t) k)) ten)
+    → line s ten ≡ Line.answer (Ok (find (length (payload t)) k).kind) (part (payload t) k ++ drop (length (part (payload t) k)) ten)
 unfolding frame_line
 frame_read_proof t s ten k c e h =
     let l : List ℕ = payload t in
@@ -64,11 +63,11 @@ frame_read_proof t s ten k c e h =
 -- ---- the form of a refusal
 
 -- a text that begins with `(r` is of no form
-other_text : (s ten : List ℕ) → length ten ≡ 10 → line (40 ∷ 114 ∷ s) ten ≡ Line.answer (Refused 9) ten
+other_text : (s ten : List ℕ) → length ten ≡ 10 → line (40 ∷ 114 ∷ s) ten ≡ Line.answer (Err 9) ten
 unfolding line is is_form form same opening
 other_text s ten h = rw (eq-eqb (length ten) 10 h)
 
-refusal_refused_proof : (s ten : List ℕ) (code number : ℕ) → ended s ≡ refused code number → length ten ≡ 10 → line s ten ≡ Line.answer (Refused 9) ten
+refusal_refused_proof : (s ten : List ℕ) (code number : ℕ) → ended s ≡ refused code number → length ten ≡ 10 → line s ten ≡ Line.answer (Err 9) ten
 unfolding ended refused figure
 refusal_refused_proof [] ten code number e h = let z : ◌≡◌ {A = ℕ} 10 40 = cc in absurd (omega arith)
 refusal_refused_proof (a ∷ []) ten code number e h = let z : ◌≡◌ {A = ℕ} 10 114 = cc in absurd (omega arith)

@@ -8,7 +8,6 @@ ghost use Rattle.line.specs.Line.{is_hex};
 ghost use Rattle.rtp.specs.Rtp.{frames};
 ghost use Rattle.payload_line.specs.PayloadLine.{longest, room, refusal, ended, frame_line, frame_lines, payload, of_payload, is_line, payload_line, Answer, given};
 
-use line::Read;
 use print::FORM_ROOM;
 
 // The digits of the longest payload, 65,535 bytes.
@@ -54,10 +53,8 @@ fn put_frames(text: &[u8], count: usize, out: &mut [u8]) -> usize
     ensures { Put (frame_lines (payload text.now) count) 0 out.old result out.new }
 {
     let mut at = 0;
-    let mut k = 0;
-    while k < count {
+    for k in 0..count {
         at = put_frame(text, k, at, out);
-        k += 1;
     }
     at
 }
@@ -91,11 +88,7 @@ fn is_line(text: &[u8]) -> bool
     ensures { result ≡ is_line text.now }
 {
     let mut payload = [0u8; 10];
-    let answer = line::line(text, &mut payload);
-    match answer {
-        Read::Refused(n) => false,
-        Read::Frame(kind) => true,
-    }
+    line::line(text, &mut payload).is_ok()
 }
 
 // A text and a line feed, at the front.

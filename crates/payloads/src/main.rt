@@ -2,11 +2,11 @@
 // is `payload_line` of payload_line.specs.PayloadLine. No contract can say what is read or written, so the work is done on lent memory, by crate payload_line.
 #![tactic(auto)]
 
-ghost use Rattle.std.specs.Prelude.{◌≤◌, ◌<◌, length};
+ghost use Rattle.std.specs.Prelude.{◌≤◌, length, IfSome};
 
-use files::Input;
+use files::{Input, Told};
 use payload_line::{LONGEST, ROOM};
-use print::FORM_ROOM;
+use refusal::Refusal;
 
 const USAGE: [u8; 27] = *b"usage: payloads [PAYLOADS]\n";
 
@@ -16,41 +16,23 @@ const INPUT: usize = LONGEST + 1;
 // As many turns as there can be.
 const MOST: u64 = 18446744073709551615;
 
-// Where the program is: the first byte of the input that is not used yet and the one behind the last, the lines that were taken, and whether it goes on.
+// Where the program is: the first byte of the input that is not used yet and the one behind the last, and the lines that were taken.
 #[derive(Clone, Copy)]
 struct Place {
     from: usize,
     to: usize,
     lines: u32,
-    more: bool,
 }
 
-// Nothing is read any more.
-fn ended(lines: u32) -> Place
-    ensures { (result.from ≤ result.to) × (result.to ≤ 131071) }
-{
-    Place {
-        from: 0,
-        to: 0,
-        lines,
-        more: false,
-    }
-}
-
-// What is left is no line: its refusal, and the end.
-fn refused(rt: &HostRuntime, lines: u32, what: &[u8]) -> Place
-    ensures { (result.from ≤ result.to) × (result.to ≤ 131071) }
-{
+// What is left is no line: its refusal.
+fn refuse(rt: &HostRuntime, lines: u32, what: &[u8]) {
     let number = line_step::one_more(lines);
-    let mut form = [0u8; FORM_ROOM];
-    let n = print::refused(9, number, &mut form);
-    files::print(rt, &form, n);
+    files::print_refused(rt, Refusal::LineForm.number(), number);
     files::say_line(rt, b"payloads", number, what);
-    ended(number)
 }
 
-// One line, without its line feed. False where standard output could not be written.
-fn take(rt: &HostRuntime, text: &[u8], number: u32, out: &mut [u8; ROOM]) -> bool {
+// One line, without its line feed.
+fn take(rt: &HostRuntime, text: &[u8], number: u32, out: &mut [u8; ROOM]) -> Result<(), Told> {
     let printed = payload_line::payload_line(text, number, out);
     if printed.code == 9 {
         files::say_line(
@@ -68,50 +50,43 @@ fn take(rt: &HostRuntime, text: &[u8], number: u32, out: &mut [u8; ROOM]) -> boo
             b"refused (12): the payload's length leaves a remainder other than 0 or 2 by ten",
         );
     }
-    let view: &[u8] = out;
     let n = printed.written;
-    files::write(rt, &view[0..n])
+    files::write(rt, &out[..n])
 }
 
-// One read behind the bytes that are not used, which move to the front.
-fn fill(rt: &HostRuntime, source: &Input, name: &[u8], p: Place, input: &mut [u8]) -> Place
+// One read behind the bytes that are not used, which move to the front. None at the end, and where what is left is no line or can't be read.
+fn fill(rt: &HostRuntime, source: &Input, name: &[u8], p: Place, input: &mut [u8]) -> Option<Place>
     requires { length input.old ≤ 131071 }
-    ensures { (result.from ≤ result.to) × (result.to ≤ 131071) }
+    ensures { IfSome result (λ q. (q.from ≤ q.to) × (q.to ≤ 131071)) }
 {
     let held = call::keep(input, p.from, p.to);
     if held == input.len() {
-        return refused(
+        refuse(
             rt,
             p.lines,
             b"refused (9): a longer line than that of a payload of 65,535 bytes; nothing behind it is read",
         );
+        return None;
     }
-    let bytes = match files::read(source, &mut input[held..]) {
-        Ok(bytes) => bytes,
-        Err(e) => {
-            files::fail(rt, name, e);
-            return ended(p.lines);
+    let bytes = files::or_tell(rt, name, source.read(&mut input[held..])).ok()?;
+    if bytes == 0 {
+        if held != 0 {
+            refuse(
+                rt,
+                p.lines,
+                b"refused (9): the last line has no line feed; it may be cut",
+            );
         }
-    };
-    if bytes != 0 {
-        return Place {
-            from: 0,
-            to: held + bytes,
-            lines: p.lines,
-            more: true,
-        };
+        return None;
     }
-    if held != 0 {
-        return refused(
-            rt,
-            p.lines,
-            b"refused (9): the last line has no line feed; it may be cut",
-        );
-    }
-    ended(p.lines)
+    Some(Place {
+        from: 0,
+        to: held + bytes,
+        lines: p.lines,
+    })
 }
 
-// The next line, or a read where there is no whole one.
+// The next line, or a read where there is no whole one. None where no further one follows.
 fn turn(
     rt: &HostRuntime,
     source: &Input,
@@ -119,9 +94,9 @@ fn turn(
     p: Place,
     input: &mut [u8],
     out: &mut [u8; ROOM],
-) -> Place
+) -> Option<Place>
     requires { (p.from ≤ p.to) × ((p.to ≤ length input.old) × (length input.old ≤ 131071)) }
-    ensures { (result.from ≤ result.to) × (result.to ≤ 131071) }
+    ensures { IfSome result (λ q. (q.from ≤ q.to) × (q.to ≤ 131071)) }
 {
     let from = p.from;
     let end = octets::find(input, from, p.to, 10);
@@ -129,36 +104,12 @@ fn turn(
         return fill(rt, source, name, p, input);
     }
     let number = line_step::one_more(p.lines);
-    let more = take(rt, &input[from..end], number, out);
-    Place {
+    take(rt, &input[from..end], number, out).ok()?;
+    Some(Place {
         from: end + 1,
         to: p.to,
         lines: number,
-        more,
-    }
-}
-
-// How many turns may follow.
-fn rest(most: u64, more: bool) -> u64
-    requires { 0 < most }
-    ensures { result < most }
-{
-    if more { most - 1 } else { 0 }
-}
-
-// `turn` on the whole buffer.
-fn next(
-    rt: &HostRuntime,
-    source: &Input,
-    name: &[u8],
-    p: Place,
-    input: &mut [u8; INPUT],
-    out: &mut [u8; ROOM],
-) -> Place
-    requires { (p.from ≤ p.to) × (p.to ≤ 131071) }
-    ensures { (result.from ≤ result.to) × (result.to ≤ 131071) }
-{
-    turn(rt, source, name, p, input, out)
+    })
 }
 
 // A whole text.
@@ -169,13 +120,12 @@ fn convert(rt: &HostRuntime, source: &Input, name: &[u8]) {
         from: 0,
         to: 0,
         lines: 0,
-        more: true,
     };
-    let mut most: u64 = MOST;
-    while 0 < most {
-        let from = p;
-        p = next(rt, source, name, from, &mut input, &mut out);
-        most = rest(most, p.more);
+    for _ in 0..MOST {
+        let Some(next) = turn(rt, source, name, p, &mut input, &mut out) else {
+            break;
+        };
+        p = next;
     }
 }
 
@@ -195,16 +145,16 @@ fn main(rt: HostRuntime) {
     if done {
         return;
     }
-    let mut name = [0u8; 4096];
-    let n = files::argument(&rt, a.first, b"standard input", &mut name);
+    let mut room = [0u8; 4096];
+    let name = files::argument(&rt, a.first, b"standard input", &mut room);
     let source = files::input(
         &rt,
-        a.first != 0,
-        &name[0..n],
+        a.first.is_some(),
+        name,
         b"payloads",
         b"reading payloads from the terminal; end them with Ctrl-D (payloads --help tells more)",
     );
-    if let Some(source) = source {
-        convert(&rt, &source, &name[0..n]);
+    if let Ok(source) = source {
+        convert(&rt, &source, name);
     }
 }

@@ -9,7 +9,7 @@ use Rattle.laws.specs.Lists.{at, tab, length_tab, at_tab}
 use Rattle.basic_op.specs.Ops.{low16, extract_l}
 use Rattle.basic_op.specs.Low.{low_lt}
 use Rattle.text.specs.Text.{ascii}
-use Rattle.print.specs.Print.{word, words, pcm}
+use Rattle.print.specs.Print.{word, words}
 use Rattle.print.specs.Laws.{length_words, words_at, number, number_word, sample_back}
 use Rattle.pcm_line.specs.PcmLine.{pcm_text, pcm_line, sample, digits, count, is_line, samples, answer, read}
 use Rattle.pcm_line.specs.Laws.{length_text, length_digits, no_line, read_none}

@@ -8,7 +8,7 @@ ghost use Rattle.text.specs.Text.{Put};
 ghost use Rattle.print.specs.Print.{frame_room, over};
 ghost use Rattle.pcm_line.specs.PcmLine.{sample, digits, pcm_text, pcm_line, Answer, read};
 
-use print::FRAME_ROOM;
+use print::{FRAME_ROOM, Writer};
 
 // The sample of the four digits at a place.
 pub fn sample(text: &[u8], at: usize) -> i16
@@ -24,25 +24,25 @@ pub fn sample(text: &[u8], at: usize) -> i16
 }
 
 // Writes the `n` samples of the digits behind `(pcm ` to the front of `samples`.
-fn digits(text: &[u8], n: usize, samples: &mut [i16])
+pub fn digits(text: &[u8], n: usize, samples: &mut [i16])
     requires { (5 + 4 * n ≤ length text.now) × (n ≤ length samples.old) }
     ensures { samples.new ≡ digits n text.now ++ drop n samples.old }
 {
-    let mut i = 0;
-    while i < n {
+    for i in 0..n {
         samples[i] = sample(text, 5 + 4 * i);
-        i += 1;
     }
 }
 
 // The line of samples at the front of `out`; answers its length.
-fn put_line(samples: &[i16], out: &mut [u8]) -> usize
+fn put_line(samples: &[i16], out: &mut [u8; FRAME_ROOM]) -> usize
     requires { 7 + 4 * length samples.now ≤ length out.old }
     ensures { Put (pcm_line samples.now) 0 out.old result out.new }
 {
-    let a = print::put(b"(pcm ", 0, out);
-    let b = print::words(samples, a, out);
-    print::put(b")\n", b, out)
+    let mut w = Writer::new(out);
+    w.put(b"(pcm ");
+    w.words(samples);
+    w.put(b")\n");
+    w.written()
 }
 
 // The line of the first 80 samples, or of all where there are fewer, at the front of `out`; answers its length; the bytes behind it are as they were. The line of no samples is `(pcm )`.
@@ -65,7 +65,7 @@ fn is_printed(text: &[u8], samples: &[i16]) -> bool
 }
 
 // How many samples a line has, without its line feed; they are at the front of `samples`, and those behind them are as they were. 0, and nothing written, where it is no line of 1 to 80
-// samples: one of no samples, or a text that is not what is printed of the samples that its digits give.
+// samples: one of no samples, or a text that is not what is printed of the samples that its digits give. A count and no Option: 0 samples are what `leg` hands on.
 pub fn read(text: &[u8], samples: &mut [i16; 80]) -> usize
     ensures { Answer.answer result samples.new ≡ read text.now samples.old }
 {

@@ -1,14 +1,14 @@
 -- Laws of the delays: a third without a division, fractions as remainders, and ranges. Assumes nothing.
 use Rattle.std.specs.Prelude.{ℕ, zero, suc, ◌+◌, ◌-◌, ◌*◌, ◌/◌, ◌%◌, ◌^◌, ◌≤◌, ◌<◌, Bool, cond, not, ◌&&◌, eqb, leb, ltb, ℤ, pos, negsuc, ◌+ℤ◌, ◌-ℤ◌, ◌*ℤ◌}
 use Rattle.std.proofs.Math.Path.{◌≡◌, refl}
-use Rattle.std.proofs.Common.{ap, subst, arith, mod-lt, lit<, SFits}
+use Rattle.std.proofs.Common.{ap, subst, arith, mod-lt, lit<, SFits, of_z}
 use Rattle.std.proofs.Math.Bool.{true, false}
 use Rattle.std.proofs.Math.Nat.{mod-mod}
 use Rattle.std.proofs.Math.Dec.{T}
 use Rattle.std.proofs.Math.IntN.{nat_abs}
 use Rattle.std.specs.Int.Signed.{lt_z, le_z}
 use borrow.Author.Tests.{lt-ltb, le-ltb, ltb-true, ltb-false}
-use Rattle.std.specs.Int.{w16}
+use Rattle.std.specs.Int.{w16, int_min, int_max}
 use Rattle.std.proofs.Math.Facts.{and_yes, yes_and, leb_yes, yes_leb, eqb_yes, sfits_lit}
 use Rattle.laws.specs.Ints.{sameZ, sameZ_yes}
 use Rattle.laws.specs.Loops.{steps, every, every_at}
@@ -70,6 +70,13 @@ module _ {y z : ℤ} (e : y ≡ z) where
       go (pos n) q = refl
       go (negsuc n) q = let h : ◌≡◌ {A = Bool} true false = q in absurd (subst T h tt)
 
+-- by the library's `max`
+pub nat_max : (z : ℤ) → of_z w16 (int_max z (pos 0)) ≡ nat z
+unfolding nat
+nat_max (pos zero) = refl
+nat_max (pos (suc n)) = rw (lt-ltb 0 (suc n) (omega arith))
+nat_max (negsuc n) = refl
+
 -- ---- one more, at most 143
 
 pub fits_more : (z : ℤ) → lt_z z (pos 143) ≡ true → SFits w16 z → SFits w16 (z +ℤ pos 1)
@@ -87,6 +94,15 @@ pub increased_most : (z : ℤ) → lt_z z (pos 143) ≡ false → pos 143 ≡ le
 unfolding lesser
 increased_most (pos n) p = let h : 143 ≤ n = ltb-false n 143 p in rw (lt-ltb 143 (n + 1) (omega arith))
 increased_most (negsuc n) p = let h : ◌≡◌ {A = Bool} true false = p in absurd (subst T h tt)
+
+-- the same by the library's `min`, before the one is added
+pub increased_is : (z : ℤ) → int_min z (pos 142) +ℤ pos 1 ≡ lesser (z +ℤ pos 1) (pos 143)
+increased_is (pos n) = go (ltb 142 n) refl
+  where
+    go : (t : Bool) → ltb 142 n ≡ t → cond t (pos 142) (pos n) +ℤ pos 1 ≡ lesser (pos n +ℤ pos 1) (pos 143)
+    go true e = let h : 142 < n = ltb-true 142 n e in increased_most (pos n) (le-ltb n 143 (omega arith))
+    go false e = let h : n ≤ 142 = ltb-false 142 n e in increased_more (pos n) (lt-ltb n 143 (omega arith))
+increased_is (negsuc n) = increased_more (negsuc n) refl
 
 -- ---- a remainder less 1
 

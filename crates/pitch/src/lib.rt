@@ -64,10 +64,7 @@ fn in_thirds(n: u16, rest: u16) -> Delay
 pub fn nat(z: i16) -> u16
     ensures { result ≡ nat z }
 {
-    if z < 0 {
-        return 0;
-    }
-    z as u16
+    z.max(0).cast_unsigned()
 }
 
 // Clause 4.1.3: T1 from P1.
@@ -86,14 +83,7 @@ pub fn decode_t1(p1: u16) -> Delay
 fn t_min(t1: i16) -> u16
     ensures { result ≡ t_min t1 }
 {
-    let n = nat(t1);
-    if n < 25 {
-        return 20;
-    }
-    if n > 139 {
-        return 134;
-    }
-    n - 5
+    nat(t1).saturating_sub(5).clamp(20, 134)
 }
 
 // Clause 4.1.3: T2 from P2 and the integer part of T1.
@@ -131,10 +121,9 @@ impl PitchState {
     fn increased(self) -> PitchState
         ensures { result ≡ increased self.old }
     {
-        if self.old < 143 {
-            return PitchState { old: self.old + 1 };
+        PitchState {
+            old: self.old.min(142) + 1,
         }
-        PitchState { old: 143 }
     }
 
     // Clause 4.1.2: subframe 1 of a received frame; after a parity error the carried delay.

@@ -1,15 +1,15 @@
 -- A call with a greater depth: it is not refused either, and loses no frame that was played. Assumes nothing.
+use Rattle.std.specs.Prelude.{Ok}
 use Rattle.std.specs.Prelude.{◌≡◌, ℕ, ◌≤◌, length, get_or}
 use Rattle.std.proofs.Math.Path.{refl}
 use Rattle.std.proofs.Common.{sym, ap, ◌∙◌}
 use mathlib.Core.List.{List}
-use Rattle.playout.specs.declared.Planned.TheVariants.{Lost}
 use Rattle.playout.specs.Playout.{arrivals, kinds, lost, answer, playout}
 use Rattle.playout.specs.Laws.{kinds_at, playout_done}
 use Rattle.playout.proofs.Laws.{done}
 use Rattle.playout.specs.Depth.{deeper, fewer, Deeper}
 
-pub call_deeper : (f s d e : ℕ) (ns ts before again : List ℕ) (m : ℕ) (ks : List ℕ) → playout f s d ns ts before ≡ answer (Lost m) ks → d ≤ e → length again ≡ length before → Deeper f s e ns ts again m ks
+pub call_deeper : (f s d e : ℕ) (ns ts before again : List ℕ) (m : ℕ) (ks : List ℕ) → playout f s d ns ts before ≡ answer (Ok m) ks → d ≤ e → length again ≡ length before → Deeper f s e ns ts again m ks
 call_deeper f s d e ns ts before again m ks g h b =
     let w = done f s d ns ts before m ks g in
     record {

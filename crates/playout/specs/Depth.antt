@@ -1,4 +1,5 @@
 -- A greater depth (change request 11): it never makes a played frame lost, so the lost count never grows with it. What that says of a call is in proofs/Depth.antt. Assumes nothing.
+use Rattle.std.specs.Prelude.{Ok, Err}
 use Rattle.std.specs.Prelude.{◌≡◌, Bool, ◌&&◌, ◌||◌, ℕ, suc, ◌≤◌, ◌<◌, eqb, leb, length, get_or}
 use Rattle.std.proofs.Math.Path.{refl}
 use Rattle.std.proofs.Common.{le-leb, leb-true}
@@ -6,7 +7,6 @@ use Rattle.std.proofs.Math.Bool.{true, false, cond}
 use mathlib.Core.List.{List, [], ◌∷◌, map}
 use native.Mathlib.Omega.{arith}
 use Rattle.laws.specs.Lists.{upto}
-use Rattle.playout.specs.declared.Planned.TheVariants.{Refused, Lost}
 use Rattle.playout.specs.Playout.{Arrival, arrivals, due, arrived, kind, kinds, lost, answer, refusal, playout}
 use Rattle.playout.specs.Laws.{not_refused}
 
@@ -56,19 +56,19 @@ module _ (s d e : ℕ) (deep : d ≤ e) (l : List Arrival) where
 pub record Deeper (f s e : ℕ) (ns ts again : List ℕ) (m : ℕ) (ks : List ℕ) : Type 0 where
   pub count : ℕ
   pub after : List ℕ
-  pub given : playout f s e ns ts again ≡ answer (Lost count) after
+  pub given : playout f s e ns ts again ≡ answer (Ok count) after
   pub fewer : count ≤ m
   pub played : (i : ℕ) → i < f → get_or ks i 3 ≡ 0 → get_or after i 3 ≡ 0
 
 -- a refusal is the same at every depth
-pub call_refused : (f s d e : ℕ) (ns ts before : List ℕ) (n : ℕ) → playout f s d ns ts before ≡ answer (Refused n) before → playout f s e ns ts before ≡ answer (Refused n) before
+pub call_refused : (f s d e : ℕ) (ns ts before : List ℕ) (n : ℕ) → playout f s d ns ts before ≡ answer (Err n) before → playout f s e ns ts before ≡ answer (Err n) before
 unfolding playout
 call_refused f s d e ns ts before n g = go (eqb (refusal f ns (length ts) (length before)) 0) g
   where
     after : ℕ → List ℕ
     after k = kinds s k (arrivals ns ts) f
 
-    go : (t : Bool) → cond t (answer (Lost (lost (after d))) (after d)) (answer (Refused (refusal f ns (length ts) (length before))) before) ≡ answer (Refused n) before
-        → cond t (answer (Lost (lost (after e))) (after e)) (answer (Refused (refusal f ns (length ts) (length before))) before) ≡ answer (Refused n) before
+    go : (t : Bool) → cond t (answer (Ok (lost (after d))) (after d)) (answer (Err (refusal f ns (length ts) (length before))) before) ≡ answer (Err n) before
+        → cond t (answer (Ok (lost (after e))) (after e)) (answer (Err (refusal f ns (length ts) (length before))) before) ≡ answer (Err n) before
     go true q = absurd (not_refused (lost (after d)) n (after d) before q)
     go false q = q

@@ -1,5 +1,6 @@
 -- Laws of the playout: the arrivals one by one give the kinds, and what the loops hold before each turn. Assumes nothing.
-use Rattle.std.specs.Prelude.{◌≡◌, ◌≢◌, Bool, ◌&&◌, ◌||◌, set, take}
+use Rattle.std.specs.Prelude.{Result, Ok, Err}
+use Rattle.std.specs.Prelude.{◌≡◌, ◌≢◌, Bool, ◌&&◌, ◌||◌, set, take, replicate}
 use Rattle.std.proofs.Math.Path.{refl, sym, ap}
 use Rattle.std.proofs.Common.{◌∙◌, add-one, arith, length-set, take-suc, take_all, length-take-le, get_or-set_same}
 use Rattle.std.proofs.Math.Bool.{true, false, cond}
@@ -10,8 +11,6 @@ use Rattle.std.proofs.Math.ListN.{length, get_or, length-map}
 use Rattle.std.proofs.Math.Seq.{get_or-set_other, ext_get_or}
 use borrow.Author.Tests.{eqb-true, eqb-false, ne_eqb, eq-eqb, leb-true, le-leb}
 use Rattle.laws.specs.Lists.{upto, length_upto, map_upto}
-use Rattle.playout.specs.declared.Planned.{Planned}
-use Rattle.playout.specs.declared.Planned.TheVariants.{Refused, Lost}
 use Rattle.playout.specs.Playout.{Arrival, arrivals, due, arrived, kind, kinds, lost, below, Answer, answer, refusal, playout}
 
 -- ---- one arrival after another, as the code takes them
@@ -103,6 +102,11 @@ module _ (s d : ℕ) where
   unfolding take_all_in
   all_more [] a ks = refl
   all_more (b ∷ l) a ks = all_more l a (take_in s d b.number b.time ks)
+
+-- as many 3 as there are kinds
+pub all_lost : (ks : List ℕ) → replicate {A = ℕ} (length ks) 3 ≡ map (λ k. 3) ks
+all_lost [] = refl
+all_lost (k ∷ ks) = ap (λ (l : List ℕ). 3 ∷ l) (all_lost ks)
 
 -- ---- numbers and times as arrivals
 
@@ -207,17 +211,17 @@ accepted_if f ns ts room a b c e g = rw (le-leb f 4096 a, le-leb (length ns) 409
 -- ---- the call, by its number
 
 module _ (f s d : ℕ) (ns ts before : List ℕ) (n : ℕ) (e : n ≡ refusal f ns (length ts) (length before)) where
-  pub playout_refused : n ≢ 0 → answer (Refused n) before ≡ playout f s d ns ts before
+  pub playout_refused : n ≢ 0 → answer (Err n) before ≡ playout f s d ns ts before
   unfolding playout
   playout_refused h = rw (← e, ne_eqb n 0 h)
 
-  pub playout_done : n ≡ 0 → (m : ℕ) (out : List ℕ) → out ≡ kinds s d (arrivals ns ts) f → m ≡ lost out → answer (Lost m) out ≡ playout f s d ns ts before
+  pub playout_done : n ≡ 0 → (m : ℕ) (out : List ℕ) → out ≡ kinds s d (arrivals ns ts) f → m ≡ lost out → answer (Ok m) out ≡ playout f s d ns ts before
   unfolding playout
   playout_done h m out g q = rw (← e, h, q, g)
 
-abbrev is_refused : Answer Planned → ℕ
-is_refused (answer (Refused n) ks) = 1
-is_refused (answer (Lost m) ks) = 0
+abbrev is_refused : Answer (Result ℕ ℕ) → ℕ
+is_refused (answer (Err n) ks) = 1
+is_refused (answer (Ok m) ks) = 0
 
-pub not_refused : (m n : ℕ) (ks before : List ℕ) → answer (Lost m) ks ≡ answer (Refused n) before → ⊥
+pub not_refused : (m n : ℕ) (ks before : List ℕ) → answer (Ok m) ks ≡ answer (Err n) before → ⊥
 not_refused m n ks before g = let c : ◌≡◌ {A = ℕ} 0 1 = ap is_refused g in absurd (omega arith)

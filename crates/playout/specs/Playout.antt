@@ -1,11 +1,8 @@
 -- Trying a playout depth (change request 11): which frames of a list of arrivals are played, and how many are lost. Times are in milliseconds; on whole numbers no sum wraps.
+use Rattle.std.specs.Prelude.{Result, Ok, Err, Option, None, Some}
 use Rattle.std.specs.Prelude.{Bool, false, cond, ◌&&◌, ◌||◌, List, [], ◌∷◌, map, ℕ, zero, suc, ◌+◌, ◌*◌, eqb, leb, length, get_or}
 use Rattle.laws.specs.Lists.{upto}
 use Rattle.laws.specs.Loops.{nowhere}
-use Rattle.playout.specs.declared.Planned.{Planned}
-use Rattle.playout.specs.declared.Planned.TheVariants.{Refused, Lost}
-use Rattle.playout.specs.declared.Found.{Found}
-use Rattle.playout.specs.declared.Found.TheVariants.{Never, Depth}
 
 -- a frame's number, and when it arrived
 pub record Arrival : Type 0 where
@@ -54,11 +51,11 @@ unfoldable pub refusal : (frames : ℕ) (numbers : List ℕ) (times room : ℕ) 
 refusal frames numbers times room =
     cond (leb frames 4096 && leb (length numbers) 4096) (cond (below frames numbers) (cond (eqb times (length numbers) && eqb room frames) 0 7) 21) 20
 
-unfoldable pub playout : (frames start depth : ℕ) (numbers times before : List ℕ) → Answer Planned
+unfoldable pub playout : (frames start depth : ℕ) (numbers times before : List ℕ) → Answer (Result ℕ ℕ)
 playout frames start depth numbers times before =
     let n : ℕ = refusal frames numbers (length times) (length before) in
     let after : List ℕ = kinds start depth (arrivals numbers times) frames in
-    cond (eqb n 0) (answer (Lost (lost after)) after) (answer (Refused n) before)
+    cond (eqb n 0) (answer (Ok (lost after)) after) (answer (Err n) before)
 
 -- ---- the least depth at which at most so many of n frames are lost, of all depths of 32 bits
 
@@ -66,17 +63,17 @@ unfoldable pub enough : (start allowed : ℕ) → List Arrival → (n depth : �
 enough start allowed l n depth = leb (lost (kinds start depth l n)) allowed
 
 -- the first of the n numbers from d on that passes a test
-unfoldable pub first : (ℕ → Bool) → (d n : ℕ) → Found
-first test d zero = Never
-first test d (suc n) = cond (test d) (Depth d) (first test (suc d) n)
+unfoldable pub first : (ℕ → Bool) → (d n : ℕ) → Option ℕ
+first test d zero = None
+first test d (suc n) = cond (test d) (Some d) (first test (suc d) n)
 
 -- the depth found, else the greatest
-unfoldable pub depth_of : Found → ℕ
-depth_of Never = 4294967295
-depth_of (Depth d) = d
+unfoldable pub depth_of : Option ℕ → ℕ
+depth_of None = 4294967295
+depth_of (Some d) = d
 
 -- the answer, with the kinds of that depth
-unfoldable pub least : (start allowed : ℕ) → List Arrival → ℕ → Answer Found
+unfoldable pub least : (start allowed : ℕ) → List Arrival → ℕ → Answer (Option ℕ)
 least start allowed l n =
-    let found : Found = first (enough start allowed l n) 0 4294967296 in
+    let found : Option ℕ = first (enough start allowed l n) 0 4294967296 in
     answer found (kinds start (depth_of found) l n)

@@ -1,10 +1,13 @@
 // Trying playout depths (change request 11): which frames of a list of arrivals would be played, and how many lost. Times are in milliseconds.
 #![tactic(auto)]
 
-ghost use Rattle.std.specs.Prelude.{◌≡◌, cond, ◌+◌, ◌<◌, min, eqb, map, length};
+ghost use Rattle.std.specs.Prelude.{◌≡◌, ◌+◌, ◌<◌, length};
+ghost use Rattle.refusal.specs.Refusal.{code, numbered};
 ghost use Rattle.playout.specs.Playout.{Answer, arrivals, due, kinds, lost, below, refusal, playout, enough, least};
 ghost use Rattle.playout.specs.Laws.{kept, take_in};
 ghost use Rattle.playout.specs.Least.{half};
+
+use refusal::Refusal;
 
 // The most frames, and the most arrivals, of a call.
 const MOST: u32 = 4096;
@@ -12,27 +15,13 @@ const MOST: u32 = 4096;
 // The greatest depth.
 const DEEPEST: u32 = 4294967295;
 
-// The kinds of frame that are written.
+// The kinds of frame that are written: numbers, as the list that C lends has them.
 const VOICE: u32 = 0;
 
 const ERASED: u32 = 3;
 
-// An answer of `playout`: the number of its refusal, or how many frames are lost.
-#[derive(Drop)]
-pub enum Planned {
-    Refused(u32),
-    Lost(u32),
-}
-
-// An answer of `least`: no depth of 32 bits, or the least.
-#[derive(Drop)]
-pub enum Found {
-    Never,
-    Depth(u32),
-}
-
 // Depths between which the least is looked for, both among them.
-#[derive(Drop)]
+#[derive(Clone, Copy)]
 struct Between {
     low: u32,
     high: u32,
@@ -52,22 +41,6 @@ fn kept(kind: u32, time: u32, due: u64) -> u32
     if (time as u64) <= due { VOICE } else { kind }
 }
 
-// The lesser of two lengths.
-fn lesser(a: usize, b: usize) -> usize
-    ensures { result ≡ min a b }
-{
-    if a < b { a } else { b }
-}
-
-// Makes every frame lost.
-fn clear(kinds: &mut [u32])
-    ensures { kinds.new ≡ map (λ k. 3) kinds.old }
-{
-    for i in 0..kinds.len() {
-        kinds[i] = ERASED;
-    }
-}
-
 // One arrival. One whose number isn't below the frame count changes nothing.
 fn take(start: u32, depth: u32, number: u32, time: u32, kinds: &mut [u32])
     ensures { kinds.new ≡ take_in start depth number time kinds.old }
@@ -82,17 +55,10 @@ fn take(start: u32, depth: u32, number: u32, time: u32, kinds: &mut [u32])
 pub fn kinds(start: u32, depth: u32, numbers: &[u32], times: &[u32], out: &mut [u32])
     ensures { out.new ≡ kinds start depth (arrivals numbers.now times.now) (length out.old) }
 {
-    clear(out);
-    for j in 0..lesser(numbers.len(), times.len()) {
+    out.fill(ERASED);
+    for j in 0..numbers.len().min(times.len()) {
         take(start, depth, numbers[j], times[j], out);
     }
-}
-
-// 1 for a lost frame.
-fn one_if_lost(kind: u32) -> usize
-    ensures { result ≡ cond (eqb kind 3) 1 0 }
-{
-    if kind == ERASED { 1 } else { 0 }
 }
 
 // How many of the kinds are 3.
@@ -100,19 +66,19 @@ pub fn lost(kinds: &[u32]) -> usize
     ensures { result ≡ lost kinds.now }
 {
     let mut n = 0;
-    for i in 0..kinds.len() {
-        n += one_if_lost(kinds[i]);
+    for kind in kinds {
+        n += usize::from(*kind == ERASED);
     }
     n
 }
 
-// Whether every number is below the frame count.
+// Whether every number is below the frame count. There is no early return, so that the compiler can take several at a time.
 fn below(frames: u32, numbers: &[u32]) -> bool
     ensures { result ≡ below frames numbers.now }
 {
     let mut all = true;
-    for j in 0..numbers.len() {
-        if frames <= numbers[j] {
+    for n in numbers {
+        if frames <= *n {
             all = false;
         }
     }
@@ -120,22 +86,22 @@ fn below(frames: u32, numbers: &[u32]) -> bool
 }
 
 // What is refused before a kind is written: 20 more than 4,096 frames or arrivals, 21 an arrival whose number isn't below the frame count, 7 not as many times as numbers or not a kind for each frame.
-fn refusal(frames: u32, numbers: &[u32], times: usize, room: usize) -> u32
-    ensures { result ≡ refusal frames numbers.now times room }
+fn check(frames: u32, numbers: &[u32], times: usize, room: usize) -> Result<(), Refusal>
+    ensures { code result ≡ refusal frames numbers.now times room }
 {
     let few = (frames <= MOST) & (numbers.len() <= MOST as usize);
     let equal = (times == numbers.len()) & (room == frames as usize);
     if !few {
-        return 20;
+        return Err(Refusal::PlayoutLimit);
     }
     let numbered = below(frames, numbers);
     if !numbered {
-        return 21;
+        return Err(Refusal::ArrivalNumber);
     }
     if !equal {
-        return 7;
+        return Err(Refusal::OutputLength);
     }
-    0
+    Ok(())
 }
 
 // Which frames are played at this depth: a kind for each, 0 voice or 3 lost, and how many are lost. Refusals 20, 21, 7, which leave the kinds as they were.
@@ -146,16 +112,13 @@ pub fn playout(
     numbers: &[u32],
     times: &[u32],
     out: &mut [u32],
-) -> Planned
-    ensures { Answer.answer result out.new ≡ playout frames start depth numbers.now times.now out.old }
+) -> Result<u32, Refusal>
+    ensures { Answer.answer (numbered result) out.new ≡ playout frames start depth numbers.now times.now out.old }
 {
-    let code = refusal(frames, numbers, times.len(), out.len());
-    if code != 0 {
-        return Planned::Refused(code);
-    }
+    check(frames, numbers, times.len(), out.len())?;
     kinds(start, depth, numbers, times, out);
     let n = lost(out);
-    Planned::Lost(n as u32)
+    Ok(n as u32)
 }
 
 // Whether at most so many frames are lost at this depth, whose kinds are written.
@@ -192,21 +155,28 @@ fn half(b: Between, middle: u32, enough: bool) -> Between
 
 // The least depth at which at most so many frames are lost; the kinds are then those of that depth, and where there is none those of the greatest depth. A greater depth never loses more, so
 // that halving finds it.
-pub fn least(start: u32, allowed: usize, numbers: &[u32], times: &[u32], out: &mut [u32]) -> Found
+pub fn least(
+    start: u32,
+    allowed: usize,
+    numbers: &[u32],
+    times: &[u32],
+    out: &mut [u32],
+) -> Option<u32>
     ensures { Answer.answer result out.new ≡ least start allowed (arrivals numbers.now times.now) (length out.old) }
 {
     if !enough(start, DEEPEST, allowed, numbers, times, out) {
-        return Found::Never;
+        return None;
     }
     let mut b = Between {
         low: 0,
         high: DEEPEST,
     };
+    // Halving has no number of turns to go over, so this is no `for`.
     while b.low < b.high {
         let middle = b.low + (b.high - b.low) / 2;
         let found = enough(start, middle, allowed, numbers, times, out);
         b = half(b, middle, found);
     }
     kinds(start, b.high, numbers, times, out);
-    Found::Depth(b.high)
+    Some(b.high)
 }

@@ -6,7 +6,7 @@ ghost use Rattle.plc.specs.Kinds.{decide};
 
 use bitstream::SpeechParams;
 
-// A voice frame's fields, or that the frame is concealed.
+// A voice frame's fields, or that the frame is concealed. Not an Option: a concealed frame is decoded too, and None would not say how, in any of the functions and definitions that have a case for each.
 #[derive(Clone, Copy)]
 pub enum Decision {
     Voice(SpeechParams),
@@ -14,6 +14,7 @@ pub enum Decision {
 }
 
 // What a frame is decoded as. Of an accepted frame the kind is at most 3, and the payload of kind 0 has ten bytes.
+#[tactic(auto, unfolding(crate::specs::Kinds::decide))]
 pub fn decide(kind: u32, payload: &[u8]) -> Decision
     ensures { result ≡ decide kind payload.now }
 {

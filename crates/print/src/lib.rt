@@ -1,4 +1,5 @@
-// The printed forms of the decoding program, each ended by a line feed, written into lent memory.
+// The printed forms of the decoding program, each ended by a line feed, written into lent memory. Not by `Display` and `write!`: only into a `String`, on the heap, do these promise which
+// bytes they write.
 #![tactic(auto)]
 
 ghost use Rattle.std.specs.Prelude.{◌≡◌, ◌+◌, ◌*◌, ◌≤◌, length};
@@ -42,21 +43,76 @@ pub fn words(samples: &[i16], from: usize, out: &mut [u8]) -> usize
     ensures { Put (words (length samples.now) samples.now) from out.old result out.new }
 {
     let mut at = from;
-    let mut i = 0;
-    while i < samples.len() {
-        at = word(basic_op::low16(samples[i]), at, out);
-        i += 1;
+    for s in samples {
+        at = word(s.cast_unsigned(), at, out);
     }
     at
+}
+
+// Lent memory that is written from the front: what stands before `at` is written.
+#[derive(Drop)]
+pub struct Writer<'a> {
+    out: &'a mut [u8],
+    at: usize,
+}
+
+impl<'a> Writer<'a> {
+    pub fn new(out: &'a mut [u8]) -> Writer<'a>
+        ensures same_reference { result.out.ghost_name ≡ out.entry.ghost_name }
+        ensures kept { length result.out.now ≡ length out.old }
+        ensures front { (result.at ≡ 0) × (result.out.now ≡ out.old) }
+    {
+        Writer { out, at: 0 }
+    }
+
+    // How many bytes are written.
+    pub fn written(&self) -> usize
+        ensures { result ≡ self.now.at }
+    {
+        self.at
+    }
+
+    pub fn put(&mut self, part: &[u8])
+        requires { self.old.at + length part.now ≤ length self.old.out.now }
+        ensures same_reference { self.new.out.ghost_name ≡ self.old.out.ghost_name }
+        ensures kept { length self.new.out.now ≡ length self.old.out.now }
+        ensures part { Put part.now self.old.at self.old.out.now self.new.at self.new.out.now }
+    {
+        self.at = put(part, self.at, self.out);
+    }
+
+    // Four digits for each sample.
+    pub fn words(&mut self, samples: &[i16])
+        requires { self.old.at + 4 * length samples.now ≤ length self.old.out.now }
+        ensures same_reference { self.new.out.ghost_name ≡ self.old.out.ghost_name }
+        ensures kept { length self.new.out.now ≡ length self.old.out.now }
+        ensures within { self.new.at ≡ self.old.at + 4 * length samples.now }
+        ensures part { Put (words (length samples.now) samples.now) self.old.at self.old.out.now self.new.at self.new.out.now }
+    {
+        self.at = words(samples, self.at, self.out);
+    }
+
+    // A number behind its label.
+    pub fn figure(&mut self, label: &[u8], n: u32)
+        requires { self.old.at + length label.now + 10 ≤ length self.old.out.now }
+        ensures same_reference { self.new.out.ghost_name ≡ self.old.out.ghost_name }
+        ensures kept { length self.new.out.now ≡ length self.old.out.now }
+        ensures within { self.new.at ≤ self.old.at + length label.now + 10 }
+        ensures part { Put (figure label.now n) self.old.at self.old.out.now self.new.at self.new.out.now }
+    {
+        self.at = figure(label, n, self.at, self.out);
+    }
 }
 
 // `(pcm H)`: four digits for each sample, two's complement, high digit first. Answers its length; the bytes behind it are as they were.
 pub fn pcm(samples: &[i16; 80], out: &mut [u8; FRAME_ROOM]) -> usize
     ensures { (result ≤ frame_room) × ((result ≡ length (pcm samples.now)) × (out.new ≡ over (pcm samples.now) out.old)) }
 {
-    let a = put(b"(pcm ", 0, out);
-    let b = words(samples, a, out);
-    put(b")\n", b, out)
+    let mut w = Writer::new(out);
+    w.put(b"(pcm ");
+    w.words(samples);
+    w.put(b")\n");
+    w.written()
 }
 
 // The decimal digits of a number.
@@ -86,9 +142,11 @@ pub fn figure(label: &[u8], n: u32, from: usize, out: &mut [u8]) -> usize
 fn figures(opening: &[u8; 15], c: Counts, out: &mut [u8; FORM_ROOM]) -> usize
     ensures { (result ≤ form_room) × Put (figures opening.now c) 0 out.old result out.new }
 {
-    let a = figure(opening, c.frames, 0, out);
-    let b = figure(b") (lost ", c.lost, a, out);
-    put(b"))\n", b, out)
+    let mut w = Writer::new(out);
+    w.figure(opening, c.frames);
+    w.figure(b") (lost ", c.lost);
+    w.put(b"))\n");
+    w.written()
 }
 
 // `(total (frames N) (lost M))`; answers its length; the bytes behind it are as they were.
@@ -109,7 +167,9 @@ pub fn saved(c: Counts, out: &mut [u8; FORM_ROOM]) -> usize
 pub fn refused(code: u32, line: u32, out: &mut [u8; FORM_ROOM]) -> usize
     ensures { (result ≤ form_room) × ((result ≡ length (refused code line)) × (out.new ≡ over (refused code line) out.old)) }
 {
-    let a = figure(b"(refused (code ", code, 0, out);
-    let b = figure(b") (line ", line, a, out);
-    put(b"))\n", b, out)
+    let mut w = Writer::new(out);
+    w.figure(b"(refused (code ", code);
+    w.figure(b") (line ", line);
+    w.put(b"))\n");
+    w.written()
 }

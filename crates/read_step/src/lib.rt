@@ -32,9 +32,8 @@ pub struct Reading {
 pub fn start() -> Reading
     ensures { (result.job ≡ start) × ((result.held ≡ 0) × (result.written ≡ 0)) }
 {
-    let job = call::start();
     Reading {
-        job,
+        job: call::start(),
         held: 0,
         written: 0,
     }
@@ -44,8 +43,7 @@ pub fn start() -> Reading
 fn end(held: usize, got: usize, most: usize) -> usize
     ensures { result ≡ min (held + got) most }
 {
-    let at = words::lesser(held, most);
-    at + words::lesser(got, most - at)
+    held.saturating_add(got).min(most)
 }
 
 // `read_step` in buffers of any length.
@@ -64,9 +62,11 @@ fn step(
     let to = end(held, got, input.len());
     let taken = call::turn(t, b, from, LINES as u32 + 1, &input[0..to], out);
     let held = call::keep(input, taken.used, to);
-    let job = taken.job;
-    let written = taken.written;
-    Reading { job, held, written }
+    Reading {
+        job: taken.job,
+        held,
+        written: taken.written,
+    }
 }
 
 // `got` bytes were read into the input behind the held ones. All whole lines are taken, up to one that is refused, and what is behind them is refused where it is overlong. What they print is at
@@ -82,15 +82,14 @@ pub fn read_step(
     ensures out_after { Answer.answer (kept b.new result.job) result.held result.written input.new out.new ≡ read_step t.now (kept b.old from.job) (from.held + got) input.old out.old }
     ensures held_le_input_room { (result.held ≤ input_room) × (result.written ≤ output_room) }
 {
-    let job = from.job;
-    step(t, b, job, from.held, got, input, out)
+    step(t, b, from.job, from.held, got, input, out)
 }
 
 // `finish` on a slice.
 fn last(job: Progress, held: usize, input: &[u8], out: &mut [u8; FORM_ROOM]) -> usize
     ensures { (result ≤ form_room) × ((result ≡ length (last_form job (take held input.now))) × (out.new ≡ over (last_form job (take held input.now)) out.old)) }
 {
-    let to = words::lesser(held, input.len());
+    let to = held.min(input.len());
     call::finish(job, &input[0..to], out)
 }
 
@@ -98,6 +97,5 @@ fn last(job: Progress, held: usize, input: &[u8], out: &mut [u8; FORM_ROOM]) -> 
 pub fn finish(at: Reading, input: &[u8; INPUT], out: &mut [u8; FORM_ROOM]) -> usize
     ensures { (result ≤ form_room) × ((result ≡ length (last_form at.job (take at.held input.now))) × (out.new ≡ over (last_form at.job (take at.held input.now)) out.old)) }
 {
-    let job = at.job;
-    last(job, at.held, input, out)
+    last(at.job, at.held, input, out)
 }

@@ -1,5 +1,5 @@
 -- The theorems of Sound.antt and Faults.antt. Assumes nothing.
-use Rattle.std.specs.Prelude.{ℕ, zero, suc, ◌≡◌, refl, Bool, true, false, List, [], ◌∷◌, ◌++◌, ◌≢◌, T, eqb, ℤ, pos, length, drop, replicate}
+use Rattle.std.specs.Prelude.{ℕ, zero, suc, ◌≡◌, refl, Ok, Err, Bool, true, false, List, [], ◌∷◌, ◌++◌, ◌≢◌, T, eqb, ℤ, pos, length, drop, replicate}
 use Rattle.std.proofs.Common.{sym, subst, ◌∙◌, true≢false, arith, length-drop}
 use Rattle.std.proofs.Math.Path.{ap}
 use Rattle.std.proofs.Math.Bool.{cond}
@@ -25,9 +25,9 @@ use Rattle.agreement.specs.Run.{frame_of}
 use Rattle.agreement.proofs.Runs.{made_frame, read_after, accepted_after}
 use Rattle.compare_step.specs.declared.Difference.{Difference}
 use Rattle.compare_step.specs.declared.Far.{Far}
-use Rattle.compare_step.specs.declared.Compared.{Compared}
-use Rattle.compare_step.specs.declared.Compared.TheVariants.{Refused, Concealed, Settling, NotClean, Known, Differs}
-use Rattle.compare_step.specs.Compare.{Answer, no_far, concealed_far, Step, voice_step, step}
+use Rattle.compare_step.specs.declared.Class.{Class}
+use Rattle.compare_step.specs.declared.Class.TheVariants.{Concealed, Settling, NotClean, Known, Differs}
+use Rattle.compare_step.specs.Compare.{Compared, ok, Answer, no_far, concealed_far, Step, voice_step, step}
 use Rattle.recover.specs.Frames.{Room, frame_samples, kept}
 use Rattle.recover.specs.Sound.{Item, Answered, said, answered, class_of, memory_of, compared, Common, Clear, AllClear, Start, begins, anew, SoundLine, Unblamed, Fair, VoiceKnown, Told, Found, SoundAnswers, Sound}
 use Rattle.recover.specs.Faults.{clear, fault, AllHeard, FaultyLine, Compares, ClearFair, Faults}
@@ -58,13 +58,17 @@ record Broken (g h : Stage) (x : Answered) : Type 0 where
   from : g ≡ held
   to : h ≡ lost
   difference : Difference
-  is : x.answer ≡ Differs difference
+  is : x.answer ≡ ok (Differs difference)
 
 data Turn (g h : Stage) (x : Answered) : Type 0 where
   fairly : Link g h x → Turn g h x
   broken : Broken g h x → Turn g h x
 
 -- ---- one frame, on any memory
+
+-- two frames that are answered alike are of one class
+inside : {c d : Class} → ok c ≡ ok d → c ≡ d
+inside h = cc
 
 module _ (t : List ℤ) (tables : table_check t ≡ 0) (i : Item) (common : Common t i) (m b : List ℤ) (far_ok : T (accepted_state b)) where
   abbrev a : Answer
@@ -185,11 +189,11 @@ module _ (t : List ℤ) (tables : table_check t ≡ 0) (i : Item) (common : Comm
           }
 
     -- others are heard, and blamed
-    blamed_went : Reached held m b → (c : Difference) → class_of a ≡ Differs c → Reached lost (memory_of a) b1
+    blamed_went : Reached held m b → (c : Difference) → class_of a ≡ ok (Differs c) → Reached lost (memory_of a) b1
     blamed_went r c h =
         led_on r lost i.heard refl
         (blamed_moved t f r.parts.params r.count r.tail r.words r.parts.slots (read b) i.heard i.room (eighty i.kind i.payload (length i.heard) common.handed.0) r.followed c
-        (sym (ap class_of (now_is r i.heard refl)) ∙ h))
+        (inside (sym (ap class_of (now_is r i.heard refl)) ∙ h)))
 
   -- ---- any other frame
 
@@ -272,12 +276,12 @@ later g (x ∷ before) l h = later h.0 before l h.1.1
 
 -- one answer isn't two
 abbrev class_number : Compared → ℕ
-class_number (Refused n) = 0
-class_number Concealed = 1
-class_number (Settling n) = 2
-class_number (NotClean n) = 3
-class_number Known = 4
-class_number (Differs d) = 5
+class_number (Err n) = 0
+class_number (Ok Concealed) = 1
+class_number (Ok (Settling n)) = 2
+class_number (Ok (NotClean n)) = 3
+class_number (Ok Known) = 4
+class_number (Ok (Differs d)) = 5
 
 apart : {A : Type 0} {x y z : Compared} → x ≡ y → x ≡ z → class_number y ≢ class_number z → A
 apart p q d = absurd (d (ap class_number (sym p ∙ q)))
@@ -290,7 +294,7 @@ told_voice x f o = go x.item.kind refl
     go zero e = e
     go (suc k) e = apart (f.concealed (λ z. omega arith)) o.is (λ z. omega arith)
 
-known_voice : (x : Answered) → Fair x → x.answer ≡ Known → x.item.kind ≡ 0
+known_voice : (x : Answered) → Fair x → x.answer ≡ ok Known → x.item.kind ≡ 0
 known_voice x f o = go x.item.kind refl
   where
     go : (k : ℕ) → x.item.kind ≡ k → x.item.kind ≡ 0
@@ -325,7 +329,7 @@ told_two g h x l o b = go g b (l.next (told_voice x l.fair o))
     go one one_begun n = n.1 o.number o.is o.late
     go two two_begun n = apart n.0 o.is (λ z. omega arith)
 
-two_known : (g h : Stage) (x : Answered) → Link g h x → g ≡ two → x.item.kind ≡ 0 → x.answer ≡ Known
+two_known : (g h : Stage) (x : Answered) → Link g h x → g ≡ two → x.item.kind ≡ 0 → x.answer ≡ ok Known
 two_known g h x l e k = (subst (λ (s : Stage). Next s h x.answer) e (l.next k)).0
 
 third : (g : Stage) (x y z : Answered) (l : List Answered) → Goes g (x ∷ y ∷ z ∷ l) → Told x → Told y → VoiceKnown z
@@ -343,7 +347,7 @@ third g x y z l (h, (l1, (h1, (l2, (h2, (l3, r)))))) a b k = last h1 h2 z l3 (mi
     last g h x (fairly q) e k = two_known g h x q e k
     last g h x (broken q) e k = two_held (sym e ∙ q.from)
 
-known_held : (g h : Stage) (x : Answered) → Link g h x → x.answer ≡ Known → h ≡ held
+known_held : (g h : Stage) (x : Answered) → Link g h x → x.answer ≡ ok Known → h ≡ held
 known_held g h x l o = go g (l.next (known_voice x l.fair o))
   where
     go : (g : Stage) → Next g h x.answer → h ≡ held
@@ -364,7 +368,7 @@ Ready lost = Unit {0}
 ready_known : (g h : Stage) (x : Answered) → Link g h x → Ready g → VoiceKnown x
 ready_known g h x l u k = go g u (l.next k)
   where
-    go : (g : Stage) → Ready g → Next g h x.answer → x.answer ≡ Known
+    go : (g : Stage) → Ready g → Next g h x.answer → x.answer ≡ ok Known
     go settling u n = absurd u
     go one u n = absurd u
     go two u n = absurd u
@@ -373,10 +377,10 @@ ready_known g h x l u k = go g u (l.next k)
 
 -- what the answer x before a frame says of the stage
 record Says (x : Compared) (g : Stage) : Type 0 where
-  known : x ≡ Known → g ≡ held
+  known : x ≡ ok Known → g ≡ held
   ready : Compares x → Ready g
 
-says_concealed : (g : Stage) → Says Concealed g
+says_concealed : (g : Stage) → Says (ok Concealed) g
 says_concealed g = record { known = λ z. apart refl z (λ z. omega arith); ready = λ z. absurd z }
 
 says_fair : (g h : Stage) (x : Answered) → Link g h x → Says x.answer h
@@ -385,17 +389,17 @@ says_fair g h x l = record { known = λ z. known_held g h x l z; ready = go x.it
     held_ready : h ≡ held → Ready h
     held_ready e = subst Ready (sym e) tt
 
-    blameless : x.item.kind ≡ 0 → (d : Difference) → x.answer ≡ Differs d → Ready h
+    blameless : x.item.kind ≡ 0 → (d : Difference) → x.answer ≡ ok (Differs d) → Ready h
     blameless k d e = absurd (subst Unblamed e (l.fair.voice k))
 
     go : (k : ℕ) → x.item.kind ≡ k → (c : Compared) → x.answer ≡ c → Compares c → Ready h
-    go k q (Refused n) e u = absurd u
-    go k q Concealed e u = absurd u
-    go k q (Settling n) e u = absurd u
-    go k q (NotClean n) e u = absurd u
-    go k q Known e u = held_ready (known_held g h x l e)
-    go zero q (Differs d) e u = blameless q d e
-    go (suc k) q (Differs d) e u = apart (l.fair.concealed (λ z. omega arith)) e (λ z. omega arith)
+    go k q (Err n) e u = absurd u
+    go k q (Ok Concealed) e u = absurd u
+    go k q (Ok (Settling n)) e u = absurd u
+    go k q (Ok (NotClean n)) e u = absurd u
+    go k q (Ok Known) e u = held_ready (known_held g h x l e)
+    go zero q (Ok (Differs d)) e u = blameless q d e
+    go (suc k) q (Ok (Differs d)) e u = apart (l.fair.concealed (λ z. omega arith)) e (λ z. omega arith)
 
 says_broken : (g h : Stage) (x : Answered) → Broken g h x → Says x.answer h
 says_broken g h x q = record { known = λ z. apart q.is z (λ z. omega arith); ready = λ z. subst Ready (sym q.to) tt }
@@ -458,17 +462,17 @@ begun_reached t m b e q ok =
       far_state = ok;
     }
 
-whole_line : (t : List ℤ) (l : List Item) (m b : List ℤ) → FaultyLine t l m b → Line t l m b settling Concealed
+whole_line : (t : List ℤ) (l : List Item) (m b : List ℤ) → FaultyLine t l m b → Line t l m b settling (ok Concealed)
 unfolding compared
 whole_line t l m b o = go l o.start o.common o.heard
   where
-    go : (l : List Item) → Start t l m → All (Common t) l → AllHeard t l m b Concealed → Line t l m b settling Concealed
+    go : (l : List Item) → Start t l m → All (Common t) l → AllHeard t l m b (ok Concealed) → Line t l m b settling (ok Concealed)
     go l (begins lent q) c h =
-        let x = begins_with t lent m q in line t x.0 l c m b settling Concealed (says_concealed settling) h (begun_reached t m b x.0 x.1 o.far_state)
+        let x = begins_with t lent m q in line t x.0 l c m b settling (ok Concealed) (says_concealed settling) h (begun_reached t m b x.0 x.1 o.far_state)
     go [] (anew e q k) c h = record { goes = tt; fair = tt }
     go (i ∷ l) (anew e q k) c h =
         let w = went_hidden t e i c.0 m b o.far_state (whole m q) k.0 in
-        line_on t i l m b settling w.stage Concealed (fairly w.link) (λ z. (w.link.fair, λ z. absurd z))
+        line_on t i l m b settling w.stage (ok Concealed) (fairly w.link) (λ z. (w.link.fair, λ z. absurd z))
         (line t e l c.1 (memory_of (said t i m)) (block (made i.far b)) w.stage (class_of (said t i m)) (says_fair settling w.stage (answered t i m) w.link) h.1 w.reached)
 
 found : (l : List Answered) (g : Stage) → Goes g l → Found l
@@ -489,21 +493,21 @@ some_fair : (before after : List Answered) (x z : Answered) → All Fair (before
 some_fair [] after x z h = h.1.0
 some_fair (y ∷ before) after x z h = some_fair before after x z h.1
 
-second : (g : Stage) (x z : Answered) (l : List Answered) → Goes g (x ∷ z ∷ l) → Fair z → x.answer ≡ Known → VoiceKnown z
+second : (g : Stage) (x z : Answered) (l : List Answered) → Goes g (x ∷ z ∷ l) → Fair z → x.answer ≡ ok Known → VoiceKnown z
 second g x z l (h, (l1, (h1, (l2, r)))) f o k = next (first l1) l2
   where
     first : Turn g h x → h ≡ held
     first (fairly q) = known_held g h x q o
     first (broken q) = apart q.is o (λ z. omega arith)
 
-    next : h ≡ held → Turn h h1 z → z.answer ≡ Known
+    next : h ≡ held → Turn h h1 z → z.answer ≡ ok Known
     next e (fairly q) = ready_known h h1 z q (subst Ready (sym e) tt) k
     next e (broken q) = absurd (subst Unblamed q.is (f.voice k))
 
 sound_answers : (t : List ℤ) (l : List Item) (m b : List ℤ) → SoundLine t l m b → SoundAnswers (compared t l m)
 sound_answers t l m b o =
-    let r = whole_line t l m b (record { start = o.start; far_state = o.far_state; common = o.common; heard = all_heard t l m b Concealed o.clear }) in
-    let f = all_fair t l m b Concealed o.clear r.fair in
+    let r = whole_line t l m b (record { start = o.start; far_state = o.far_state; common = o.common; heard = all_heard t l m b (ok Concealed) o.clear }) in
+    let f = all_fair t l m b (ok Concealed) o.clear r.fair in
     record {
       fair = f;
       found = found (compared t l m) settling r.goes;

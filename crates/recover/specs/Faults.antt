@@ -1,11 +1,11 @@
 -- Faults: a line that is sound (Sound.antt) but for voice frames whose samples were changed on their way, each directly behind a frame that is answered Known, and each answered Differs. No other frame is blamed, and the voice frame
 -- behind each is answered Known.
-use Rattle.std.specs.Prelude.{◌≡◌, List, [], ◌∷◌, T, ℤ}
+use Rattle.std.specs.Prelude.{◌≡◌, Ok, Err, List, [], ◌∷◌, T, ℤ}
 use Rattle.state.specs.State.{accepted_state}
 use Rattle.decoder.specs.Call.{block}
 use Rattle.compare_step.specs.declared.Difference.{Difference}
-use Rattle.compare_step.specs.declared.Compared.{Compared}
-use Rattle.compare_step.specs.declared.Compared.TheVariants.{Refused, Concealed, Settling, NotClean, Known, Differs}
+use Rattle.compare_step.specs.declared.Class.TheVariants.{Concealed, Settling, NotClean, Known, Differs}
+use Rattle.compare_step.specs.Compare.{Compared, ok}
 use Rattle.agreement.specs.Demand.{made, All}
 use Rattle.recover.specs.Sound.{Item, said, class_of, memory_of, answered, compared, Common, Clear, Start, Fair, VoiceKnown, Found}
 
@@ -15,9 +15,9 @@ use Rattle.recover.specs.Sound.{Item, said, class_of, memory_of, answered, compa
 -- them by chance, the others would be dropped
 pub record Fault (t : List ℤ) (i : Item) (m : List ℤ) (x : Compared) : Type 0 where
   pub voice : i.kind ≡ 0
-  pub behind : x ≡ Known
+  pub behind : x ≡ ok Known
   pub difference : Difference
-  pub blamed : class_of (said t i m) ≡ Differs difference
+  pub blamed : class_of (said t i m) ≡ ok (Differs difference)
 
 pub data Heard (t : List ℤ) (i : Item) (m b : List ℤ) (x : Compared) : Type 0 where
   clear : Clear i b → Heard t i m b x
@@ -32,18 +32,18 @@ pub record FaultyLine (t : List ℤ) (l : List Item) (m b : List ℤ) : Type 0 w
   pub start : Start t l m
   pub far_state : T (accepted_state b)
   pub common : All (Common t) l
-  pub heard : AllHeard t l m b Concealed
+  pub heard : AllHeard t l m b (ok Concealed)
 
 -- ---- what is claimed of the answers
 
 -- there are candidates behind a frame of this answer
 abbrev pub Compares : Compared → Type 0
-Compares (Refused n) = ⊥
-Compares Concealed = ⊥
-Compares (Settling n) = ⊥
-Compares (NotClean n) = ⊥
-Compares Known = Unit {0}
-Compares (Differs d) = Unit {0}
+Compares (Err n) = ⊥
+Compares (Ok Concealed) = ⊥
+Compares (Ok (Settling n)) = ⊥
+Compares (Ok (NotClean n)) = ⊥
+Compares (Ok Known) = Unit {0}
+Compares (Ok (Differs d)) = Unit {0}
 
 -- each frame whose samples are the far decoder's: it isn't blamed, and behind a fault, as behind a frame that is answered Known, it is answered Known if voice
 abbrev pub ClearFair : List ℤ → List Item → (m b : List ℤ) → Compared → Type 0
@@ -55,5 +55,5 @@ ClearFair t (i ∷ l) m b x =
 -- ---- the theorem
 
 pub record Faults : Type 0 where
-  pub fair : (t : List ℤ) (l : List Item) (m b : List ℤ) → FaultyLine t l m b → ClearFair t l m b Concealed
+  pub fair : (t : List ℤ) (l : List Item) (m b : List ℤ) → FaultyLine t l m b → ClearFair t l m b (ok Concealed)
   pub found : (t : List ℤ) (l : List Item) (m b : List ℤ) → FaultyLine t l m b → Found (compared t l m)

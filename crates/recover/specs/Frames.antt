@@ -25,7 +25,8 @@ use Rattle.inverse.specs.Subframe.{run_word, sample_word, excitation_words}
 use Rattle.inverse.proofs.Subframe.{words_same, reconstruct_inverse, words_fit}
 use Rattle.state.specs.State.{Signal}
 use Rattle.parameters.specs.declared.Subframe.{Subframe}
-use Rattle.decoder.specs.Frame.{Buffers, frame_buffers, subframe_signal, frame_signal}
+use Rattle.decoder.specs.declared.Buffers.{Buffers}
+use Rattle.decoder.specs.Frame.{frame_buffers, subframe_signal, frame_signal}
 
 -- ---- lists
 

@@ -28,7 +28,7 @@ use Rattle.inverse.specs.Inverse.{frame_words, word}
 use Rattle.inverse.specs.Window.{length_frame_words}
 use Rattle.compare_step.specs.Slots.{candidates, all_tried, only_fitting}
 use Rattle.compare_step.specs.declared.Far.{Far}
-use Rattle.compare_step.specs.Compare.{read_far, far_words, no_far, taken, known, slots_tried, found, slots_left, look, voice_far, concealed_far, Step, voice_step, step, memory_check, refusal, Answer, answer, stepped, compare, begun, begin}
+use Rattle.compare_step.specs.Compare.{ok, read_far, far_words, no_far, taken, known, slots_tried, found, slots_left, look, voice_far, concealed_far, Step, voice_step, step, memory_check, refusal, Answer, answer, stepped, compare, begun, begin}
 use Rattle.recover.specs.Sound.{memory_of}
 use Rattle.recover.specs.SlotLaws.{length_all_tried, length_candidates, length_only_fitting}
 
@@ -69,7 +69,7 @@ memory p h s = write_params p ++ (far_words h ++ s)
 
 -- the answer that a step gives
 abbrev pub answer_of : Decoded → Step → Answer
-answer_of v r = answer r.class (memory v.params r.far r.slots) r.samples
+answer_of v r = answer (ok r.class) (memory v.params r.far r.slots) r.samples
 
 module _ (p : Params) (h : Far) (s : List ℤ) (k : Fitted p) (lt : length h.tail ≡ 10) (lw : length h.words ≡ 160) (ls : length s ≡ 1960) where
   abbrev z : Sized (with_zeros p)

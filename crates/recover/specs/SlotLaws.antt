@@ -19,7 +19,8 @@ use Rattle.inverse.specs.Inverse.{shrunk_before, window_words}
 use Rattle.inverse.specs.Window.{LeftByTwo, length_shrunk}
 use Rattle.state.specs.State.{Signal}
 use Rattle.parameters.specs.declared.Decoded.{Decoded}
-use Rattle.decoder.specs.Frame.{Buffers, frame_signal}
+use Rattle.decoder.specs.declared.Buffers.{Buffers}
+use Rattle.decoder.specs.Frame.{frame_signal}
 use Rattle.compare_step.specs.Slots.{same, same_samples, slot, slot_signal, tried, all_tried, candidate, candidates, fit, fits, same_slot, stays, only_fitting, best}
 use Rattle.recover.specs.Frames.{Room, frame_samples, kept, kept_room}
 

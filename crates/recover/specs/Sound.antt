@@ -1,13 +1,12 @@
 -- A sound line is never blamed. The comparison of crate compare_step is called once a frame, with the frame and the samples that were heard of the far decoder, and answers what the frame is.
 -- Where these are the samples that a far decoder gives for the same voice frames, whatever it received before, no answer is Differs (nor Refused). So an answer Differs says that something does
 -- differ: frames or tables that are not the same, samples that were changed on their way, or a far decoder that isn't the one defined here.
-use Rattle.std.specs.Prelude.{ℕ, ◌<◌, ◌≡◌, List, [], ◌∷◌, ◌++◌, ◌≢◌, T, ℤ, length, take}
+use Rattle.std.specs.Prelude.{ℕ, ◌<◌, ◌≡◌, Ok, Err, List, [], ◌∷◌, ◌++◌, ◌≢◌, T, ℤ, length, take}
 use Rattle.tables.specs.Layout.{AcceptedTables}
 use Rattle.state.specs.State.{accepted_state}
 use Rattle.decoder.specs.Call.{input_check, block, output}
-use Rattle.compare_step.specs.declared.Compared.{Compared}
-use Rattle.compare_step.specs.declared.Compared.TheVariants.{Refused, Concealed, Settling, NotClean, Known, Differs}
-use Rattle.compare_step.specs.Compare.{memory_check, Answer, answer, compare, begun, begin}
+use Rattle.compare_step.specs.declared.Class.TheVariants.{Concealed, Settling, NotClean, Known, Differs}
+use Rattle.compare_step.specs.Compare.{Compared, ok, memory_check, Answer, answer, compare, begun, begin}
 use Rattle.agreement.specs.Demand.{Call, made, All}
 use Rattle.agreement.specs.Run.{code}
 
@@ -78,24 +77,24 @@ pub record SoundLine (t : List ℤ) (l : List Item) (m b : List ℤ) : Type 0 wh
 
 -- those to a voice frame that blame nothing
 abbrev pub Unblamed : Compared → Type 0
-Unblamed (Refused n) = ⊥
-Unblamed Concealed = ⊥
-Unblamed (Settling n) = Unit {0}
-Unblamed (NotClean n) = Unit {0}
-Unblamed Known = Unit {0}
-Unblamed (Differs d) = ⊥
+Unblamed (Err n) = ⊥
+Unblamed (Ok Concealed) = ⊥
+Unblamed (Ok (Settling n)) = Unit {0}
+Unblamed (Ok (NotClean n)) = Unit {0}
+Unblamed (Ok Known) = Unit {0}
+Unblamed (Ok (Differs d)) = ⊥
 
 pub record Fair (x : Answered) : Type 0 where
   pub voice : x.item.kind ≡ 0 → Unblamed x.answer
-  pub concealed : x.item.kind ≢ 0 → x.answer ≡ Concealed
+  pub concealed : x.item.kind ≢ 0 → x.answer ≡ ok Concealed
 
 abbrev pub VoiceKnown : Answered → Type 0
-VoiceKnown x = x.item.kind ≡ 0 → x.answer ≡ Known
+VoiceKnown x = x.item.kind ≡ 0 → x.answer ≡ ok Known
 
 -- answered Settling n, n above 5: there are no candidates, and the frame tells its excitation (by `class` and `tells` of Compare: it is the sixth or a later one, its coefficients are in bound and its samples inside their range)
 pub record Told (x : Answered) : Type 0 where
   pub number : ℕ
-  pub is : x.answer ≡ Settling number
+  pub is : x.answer ≡ ok (Settling number)
   pub late : 5 < number
 
 -- three frames in a row, of which the first two tell their excitation and the third is voice: it is answered Known, since a candidate gives all of its 80 samples
@@ -108,7 +107,7 @@ pub record SoundAnswers (l : List Answered) : Type 0 where
   -- nor is that so because nothing is compared
   pub found : Found l
   -- a voice frame behind one that is answered Known is too: from there on each is, up to a frame that isn't voice
-  pub stays : (before after : List Answered) (x z : Answered) → l ≡ before ++ (x ∷ z ∷ after) → x.answer ≡ Known → VoiceKnown z
+  pub stays : (before after : List Answered) (x z : Answered) → l ≡ before ++ (x ∷ z ∷ after) → x.answer ≡ ok Known → VoiceKnown z
 
 -- ---- the theorem
 

@@ -20,10 +20,9 @@ use Rattle.agreement.proofs.Agree.{Agree, at_start, one_more}
 use Rattle.agreement.proofs.Gap.{Same, settled, same_agree}
 use Rattle.compare_step.specs.declared.Difference.{Difference}
 use Rattle.compare_step.specs.declared.Far.{Far}
-use Rattle.compare_step.specs.declared.Compared.{Compared}
-use Rattle.compare_step.specs.declared.Compared.TheVariants.{Settling, NotClean, Known, Differs}
+use Rattle.compare_step.specs.declared.Class.TheVariants.{Settling, NotClean, Known, Differs}
 use Rattle.compare_step.specs.Slots.{candidates, all_tried, only_fitting, fits, best, computed}
-use Rattle.compare_step.specs.Compare.{next_count, tells, next_clean, taken, known, slots_tried, found, slots_left, first_difference, look, breaks, next_status, voice_far, class, Step, voice_step}
+use Rattle.compare_step.specs.Compare.{Compared, ok, next_count, tells, next_clean, taken, known, slots_tried, found, slots_left, first_difference, look, breaks, next_status, voice_far, class, Step, voice_step}
 use Rattle.recover.specs.Frames.{Room, Words, frame_samples, kept, kept_room, kept_tail, kept_words, Clean, told, frame_fits, left_by_one, left_by_two}
 use Rattle.recover.specs.Sound.{Unblamed}
 use Rattle.recover.specs.States.{voice_first, voice_second, voice_left, voice_heads}
@@ -88,11 +87,11 @@ pub record Followed (p : Params) (n : ℕ) (g : Stage) (e w s : List ℤ) (b : S
 
 -- a frame of answer x leads from stage g to stage h
 abbrev pub Next : Stage → Stage → Compared → Type 0
-Next settling h x = (x ≢ Known) × ((m : ℕ) → x ≡ Settling m → 5 < m → h ≡ one)
-Next one h x = (x ≢ Known) × ((m : ℕ) → x ≡ Settling m → 5 < m → h ≡ two)
-Next two h x = (x ≡ Known) × (h ≡ held)
-Next held h x = (x ≡ Known) × (h ≡ held)
-Next lost h x = (x ≡ Known) × (h ≡ held)
+Next settling h x = (x ≢ ok Known) × ((m : ℕ) → x ≡ ok (Settling m) → 5 < m → h ≡ one)
+Next one h x = (x ≢ ok Known) × ((m : ℕ) → x ≡ ok (Settling m) → 5 < m → h ≡ two)
+Next two h x = (x ≡ ok Known) × (h ≡ held)
+Next held h x = (x ≡ ok Known) × (h ≡ held)
+Next lost h x = (x ≡ ok Known) × (h ≡ held)
 
 -- the step r leaves a comparison in stage g
 pub record Led (p : Params) (g : Stage) (b : State) (r : Step) : Type 0 where
@@ -105,8 +104,8 @@ pub record Led (p : Params) (g : Stage) (b : State) (r : Step) : Type 0 where
 pub record Moved (p : Params) (g : Stage) (b : State) (r : Step) : Type 0 where
   pub stage : Stage
   pub led : Led p stage b r
-  pub unblamed : Unblamed r.class
-  pub next : Next g stage r.class
+  pub unblamed : Unblamed (ok r.class)
+  pub next : Next g stage (ok r.class)
 
 -- ---- a voice frame
 
@@ -350,19 +349,19 @@ module _ (t : List ℤ) (f : SpeechParams) (p : Params) (n : ℕ) (e w s : List 
 
   -- ---- each stage
 
-  no_blame : (x : Bool) (m : ℕ) → Unblamed (cond x (NotClean m) (Settling m))
+  no_blame : (x : Bool) (m : ℕ) → Unblamed (ok (cond x (NotClean m) (Settling m)))
   no_blame true m = tt
   no_blame false m = tt
 
-  unknown : (x : Bool) (m : ℕ) → cond x (NotClean m) (Settling m) ≢ Known
+  unknown : (x : Bool) (m : ℕ) → ok (cond x (NotClean m) (Settling m)) ≢ ok Known
   unknown true m h = let z : ◌≡◌ {A = Bool} true false = cc in absurd (true≢false z)
   unknown false m h = let z : ◌≡◌ {A = Bool} true false = cc in absurd (true≢false z)
 
   -- a frame that doesn't tell its excitation is answered Settling only before the sixth
-  early : (m j : ℕ) → cond (ltb 5 m && not false) (NotClean m) (Settling m) ≡ Settling j → 5 < j → ⊥
+  early : (m j : ℕ) → ok (cond (ltb 5 m && not false) (NotClean m) (Settling m)) ≡ ok (Settling j) → 5 < j → ⊥
   early m j = go (ltb 5 m) refl
     where
-      go : (x : Bool) → ltb 5 m ≡ x → cond (x && not false) (NotClean m) (Settling m) ≡ Settling j → 5 < j → ⊥
+      go : (x : Bool) → ltb 5 m ≡ x → ok (cond (x && not false) (NotClean m) (Settling m)) ≡ ok (Settling j) → 5 < j → ⊥
       go true q h l = let z : ◌≡◌ {A = Bool} true false = cc in absurd (true≢false z)
       go false q h l = let i : m ≡ j = cc in omega (arith, ltb-false 5 m q)
 

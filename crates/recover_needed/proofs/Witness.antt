@@ -33,7 +33,8 @@ use Rattle.parameters.specs.Parts.{Parts}
 use Rattle.parameters.specs.declared.Subframe.{Subframe}
 use Rattle.parameters.specs.declared.Decoded.{Decoded}
 use Rattle.decoder.specs.Frame as decoder
-use Rattle.decoder.specs.Frame.{Buffers, Frame}
+use Rattle.decoder.specs.declared.Buffers.{Buffers}
+use Rattle.decoder.specs.Frame.{Frame}
 use Rattle.agreement.specs.Demand.{Call, FrameValues, frames, samples, filters, All, VoiceWith, PassesParity, words, octets}
 use Rattle.agreement.specs.Run.{code, taken, frame_of, values_of, run, state_after, block_after}
 use Rattle.agreement.proofs.Compute.{Run}

@@ -9,12 +9,11 @@ ghost use Rattle.replay.specs.Replay.{number, word, word_at};
 fn byte(text: &[u8], at: usize, n: usize) -> u8
     ensures { result ≡ get_or text.now (at + n) 0 }
 {
-    if at < text.len() {
-        if n < text.len() - at {
-            return text[at + n];
-        }
+    if at < text.len() && n < text.len() - at {
+        text[at + n]
+    } else {
+        0
     }
-    0
 }
 
 // The number of the `count` digits at `from`; bytes past the end count as 0.
@@ -22,10 +21,8 @@ pub fn field(text: &[u8], from: usize, count: usize) -> u32
     ensures { result ≡ number text.now from count }
 {
     let mut v: u32 = 0;
-    let mut i = 0;
-    while i < count {
+    for i in 0..count {
         v = v % 268435456 * 16 + text::value(byte(text, from, i)) as u32;
-        i += 1;
     }
     v
 }
@@ -34,10 +31,7 @@ pub fn field(text: &[u8], from: usize, count: usize) -> u32
 pub fn signed(x: u32) -> i32
     ensures { result ≡ to_z w32 x }
 {
-    if x < 2147483648 {
-        return x as i32;
-    }
-    basic_op::l_sub(-1, (4294967295 - x) as i32)
+    x.cast_signed()
 }
 
 // Its 16 lower bits, as a signed number.
@@ -61,9 +55,7 @@ fn word_at(text: &[u8], n: usize) -> i16
 pub fn words(text: &[u8], words: &mut [i16])
     ensures { words.new ≡ tab (length words.old) (word_at text.now) }
 {
-    let mut n = 0;
-    while n < words.len() {
-        words[n] = word_at(text, n);
-        n += 1;
+    for (n, word) in words.iter_mut().enumerate() {
+        *word = word_at(text, n);
     }
 }

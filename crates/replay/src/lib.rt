@@ -1,20 +1,19 @@
 // What the programs that replay stored answers share: the hexadecimal words of a line, its parts, how many values agree, and what is read and printed.
 #![tactic(auto)]
 
-ghost use Rattle.std.specs.Prelude.{◌≡◌, cond, ◌-◌, ◌≤◌};
-
 pub mod hex;
+pub mod lines;
 pub mod part;
 pub mod stream;
 pub mod tally;
 
-// How many lines, or turns, may follow of `most`: one less, and none where there is no more.
-pub fn rest(most: u32, more: bool) -> u32
-    ensures { (result ≡ cond more (most - 1) 0) × (result ≤ most - 1) }
+// Takes turns until one gives None, 2^32 - 1 at most.
+pub fn repeat<F: FnMut() -> Option<()>>(mut turn: F)
+    requires { F.IsAlwaysCallable turn }
 {
-    if more {
-        if 0 < most { most - 1 } else { 0 }
-    } else {
-        0
+    for _ in 0..u32::MAX {
+        if turn().is_none() {
+            break;
+        }
     }
 }

@@ -2,8 +2,12 @@
 // A failed read counts as the end of the input, and a failed write is passed over.
 ghost use Rattle.std.specs.Prelude.{◌≤◌, length};
 
-use crate::{hex, tally};
+use crate::hex;
+use crate::tally::Tally;
 use std::io::Read;
+
+// As many words as are read at a time.
+const CHUNK: usize = 256;
 
 // The bytes of one read; 0 at the end of the input.
 fn read_some<I: Read>(input: &mut I, text: &mut [u8]) -> usize
@@ -12,7 +16,7 @@ fn read_some<I: Read>(input: &mut I, text: &mut [u8]) -> usize
     input.read(text).unwrap_or(0)
 }
 
-// Reads until `text` is full or the input ends, and gives how many bytes it read.
+// Reads until `text` is full or the input ends, and gives how many bytes it read. Counted by hand: a read gives as many bytes as it likes.
 pub fn read_full<R: Input>(rt: &R, text: &mut [u8]) -> usize
     ensures { result ≤ length text.new }
 {
@@ -28,59 +32,42 @@ pub fn read_full<R: Input>(rt: &R, text: &mut [u8]) -> usize
     done
 }
 
-// The letter of the next line; 0 at the end.
-pub fn letter<R: Input>(rt: &R) -> u8 {
+// The next byte: the letter of a line, or the end of one. None at the end of the input.
+pub fn byte<R: Input>(rt: &R) -> Option<u8> {
     let mut byte = [0u8; 1];
-    read_full(rt, &mut byte);
-    byte[0]
+    if read_full(rt, &mut byte) == 1 {
+        Some(byte[0])
+    } else {
+        None
+    }
 }
 
-// Reads the next bytes, as many as `text` has room for: a line without its letter; and fills `words` from them. False where the input ends before.
-pub fn read_words<R: Input>(rt: &R, text: &mut [u8], words: &mut [i16]) -> bool {
-    let n = read_full(rt, text);
-    hex::words(text, words);
-    n == text.len()
+// Fills `words` from the next four digits each, and takes the end of their line. None where the input ends before.
+pub fn read_words<R: Input>(rt: &R, words: &mut [i16]) -> Option<()> {
+    let mut text = [0u8; 4 * CHUNK];
+    for words in words.chunks_mut(CHUNK) {
+        let digits = 4 * words.len();
+        if read_full(rt, &mut text[..digits]) < digits {
+            return None;
+        }
+        hex::words(&text[..digits], words);
+    }
+    byte(rt)?;
+    Some(())
 }
 
-pub fn print_text<R: Print>(rt: &R, text: &[u8]) {
-    let _ = rt.write_all(text);
-}
-
-pub fn print_decimal<R: Print>(rt: &R, n: u64) {
-    let _ = rt.print(n);
-}
-
-// Hexadecimal digits, with zeros in front up to `width` of them.
-pub fn print_hex<R: Print>(rt: &R, n: u64, width: usize) {
-    let _ = print!(rt; "{n:0width$x}");
-}
-
-// Prints a number behind its name.
-fn print_number<R: Print>(rt: &R, name: &[u8], n: u32) {
-    print_text(rt, name);
-    print_decimal(rt, n as u64);
-}
-
-// A line with a number.
-pub fn print_one<R: Print>(rt: &R, name: &[u8], n: u32) {
-    print_number(rt, name, n);
-    print_text(rt, b"\n");
-}
-
-// A line with two.
-pub fn print_two<R: Print>(rt: &R, first: &[u8], m: u32, second: &[u8], n: u32) {
-    print_number(rt, first, m);
-    print_one(rt, second, n);
+// The words of a line without its letter. None where the input ends before.
+pub fn words<R: Input, const N: usize>(rt: &R) -> Option<[i16; N]> {
+    let mut words = [0i16; N];
+    read_words(rt, &mut words)?;
+    Some(words)
 }
 
 // A row of the tally behind its name.
-pub fn print_row<R: Print>(rt: &R, name: &[u8], tally: &[u32; 64], row: usize) {
-    print_text(rt, name);
-    print_two(
-        rt,
-        b" compared ",
-        tally::compared(tally, row),
-        b" differ ",
-        tally::differ(tally, row),
+pub fn print_row<R: Print>(rt: &R, name: &str, tally: &Tally, row: usize) {
+    let _ = println!(rt;
+        "{name} compared {} differ {}",
+        tally.compared(row),
+        tally.differ(row)
     );
 }

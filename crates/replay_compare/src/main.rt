@@ -8,16 +8,18 @@ mod show;
 use compare_step::COMPARE_LENGTH;
 use replay::{part, stream};
 
-fn table_line<R: Input>(rt: &R, t: &mut [i16; 1880]) -> bool {
-    let mut text = [0u8; 7521];
-    stream::read_words(rt, &mut text, t)
+fn table_line<R: Input>(rt: &R, t: &mut [i16; 1880]) -> Option<()> {
+    stream::read_words(rt, t)
 }
 
-fn new_line<R: Input + Print>(rt: &R, t: &[i16; 1880], m: &mut [i16; COMPARE_LENGTH]) -> bool {
-    let mut text = [0u8; 1];
-    let n = stream::read_full(rt, &mut text);
-    show::begun(rt, compare_step::begin(t, m));
-    n == 1
+fn new_line<R: Input + Print>(
+    rt: &R,
+    t: &[i16; 1880],
+    m: &mut [i16; COMPARE_LENGTH],
+) -> Option<()> {
+    let end = stream::byte(rt);
+    show::begun(rt, refusal::code(compare_step::begin(t, m)));
+    end.map(|_| ())
 }
 
 // A frame with as much of the payload as its kind has. Where nothing is computed the samples of an earlier frame stay in `out`.
@@ -30,13 +32,11 @@ fn frame<R: Print>(
 ) {
     let kind = part::number(line, 0) as u32;
     let payload = part::payload(line);
-    let bytes: &[u8] = &payload;
-    let n = words::lesser(kind::payload_length(kind), bytes.len());
-    let mut far = [0i16; 80];
-    part::fill(line, 11, &mut far);
+    let n = payload.len().min(kind::payload_length(kind));
+    let far: [i16; 80] = part::array(line, 11);
     show::answer(
         rt,
-        compare_step::compare(t, m, kind, &bytes[0..n], &far, out),
+        compare_step::compare(t, m, kind, &payload[..n], &far, out),
     );
     show::computed(rt, out);
 }
@@ -46,14 +46,10 @@ fn frame_line<R: Input + Print>(
     t: &[i16; 1880],
     m: &mut [i16; COMPARE_LENGTH],
     out: &mut [i16; 80],
-) -> bool {
-    let mut text = [0u8; 365];
-    let mut line = [0i16; 91];
-    if stream::read_words(rt, &mut text, &mut line) {
-        frame(rt, t, m, &line, out);
-        return true;
-    }
-    false
+) -> Option<()> {
+    let line: [i16; 91] = stream::words(rt)?;
+    frame(rt, t, m, &line, out);
+    Some(())
 }
 
 // The next line. False at the end.
@@ -62,12 +58,12 @@ fn line<R: Input + Print>(
     t: &mut [i16; 1880],
     m: &mut [i16; COMPARE_LENGTH],
     out: &mut [i16; 80],
-) -> bool {
-    match stream::letter(rt) {
+) -> Option<()> {
+    match stream::byte(rt)? {
         b'T' => table_line(rt, t),
         b'N' => new_line(rt, t, m),
         b'F' => frame_line(rt, t, m, out),
-        _ => false,
+        _ => None,
     }
 }
 
@@ -76,9 +72,5 @@ fn main(rt: HostRuntime) {
     let mut t = [0i16; 1880];
     let mut m = [0i16; COMPARE_LENGTH];
     let mut out = [0i16; 80];
-    let mut most: u32 = 4294967295;
-    while 0 < most {
-        let more = line(&rt, &mut t, &mut m, &mut out);
-        most = replay::rest(most, more);
-    }
+    replay::repeat(|| line(&rt, &mut t, &mut m, &mut out));
 }

@@ -4,7 +4,6 @@
 #![tactic(auto)]
 
 use pitch::{Delays, PitchState};
-use replay::stream;
 
 // The least carried delay, and the first that is not accepted.
 const LEAST: u16 = 19;
@@ -66,43 +65,19 @@ fn erased() -> u32 {
     c
 }
 
-fn text<R: Print>(rt: &R, bytes: &[u8]) {
-    stream::print_text(rt, bytes);
-}
-
-fn print_sum<R: Print>(rt: &R, sum: u32) {
-    stream::print_hex(rt, sum as u64, 8);
-}
-
 // The line of a P1.
 fn line<R: Print>(rt: &R, p1: u16) {
-    text(rt, b"p1 ");
-    stream::print_decimal(rt, p1 as u64);
-    text(rt, b" ");
-    print_sum(rt, second(second(0, p1, 0, 0), p1, 1, 0));
-    text(rt, b" ");
-    let above = p1 | ABOVE_P1;
-    print_sum(
-        rt,
-        second(
-            second(0, above, ABOVE_P0, ABOVE_P2),
-            above,
-            ABOVE_P0 | 1,
-            ABOVE_P2,
-        ),
-    );
-    text(rt, b"\n");
-}
-
-fn voice<R: Print>(rt: &R) {
-    for p1 in 0..256u16 {
-        line(rt, p1);
-    }
+    let plain = second(second(0, p1, 0, 0), p1, 1, 0);
+    let p1_above = p1 | ABOVE_P1;
+    let even = second(0, p1_above, ABOVE_P0, ABOVE_P2);
+    let above = second(even, p1_above, ABOVE_P0 | 1, ABOVE_P2);
+    let _ = println!(rt; "p1 {p1} {plain:08x} {above:08x}");
 }
 
 fn main(rt: HostRuntime) {
-    voice(&rt);
-    text(&rt, b"erased ");
-    print_sum(&rt, erased());
-    text(&rt, b"\n");
+    for p1 in 0..256u16 {
+        line(&rt, p1);
+    }
+    let sum = erased();
+    let _ = println!(rt; "erased {sum:08x}");
 }

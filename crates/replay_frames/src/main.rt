@@ -4,39 +4,31 @@
 // Two decoders run side by side: the first through the whole call, the second cut at each E line and resumed from the words of that line.
 #![tactic(auto)]
 
-ghost use Rattle.std.specs.Prelude.{◌≤◌};
-
 mod refusals;
 mod rows;
 
-use replay::{part, stream, tally};
-
-// A length, and no more than there is.
-pub(crate) fn length(n: usize, most: usize) -> usize
-    ensures { result ≤ most }
-{
-    if n < most { n } else { most }
-}
+use replay::tally::Tally;
+use replay::{part, stream};
+use rows::Row;
 
 // A frame with as much of the payload as its kind has.
 fn frame(t: &[i16], b: &mut [i16], kind: u32, payload: &[u8], out: &mut [i16]) -> u32 {
-    let n = length(kind::payload_length(kind), payload.len());
-    decoder::code(decoder::frame(t, b, kind, &payload[0..n], out))
+    let n = kind::payload_length(kind).min(payload.len());
+    refusal::code(decoder::frame(t, b, kind, &payload[0..n], out))
 }
 
 // One frame by one decoder; `row` counts its samples.
-fn decode(t: &[i16], b: &mut [i16], f: &[i16], row: usize, tally: &mut [u32; 64]) {
+fn decode(t: &[i16], b: &mut [i16], f: &[i16], row: usize, tally: &mut Tally) {
     let mut out = [0i16; 80];
     let kind = part::number(f, 0) as u32;
     let payload = part::payload(f);
     let code = frame(t, b, kind, &payload, &mut out);
-    tally::count(tally, rows::ANSWERS, code != 0);
-    tally::words(tally, row, f, 11, &out);
+    tally.count(Row::Answers as usize, code != 0);
+    tally.words(row, f, 11, &out);
 }
 
-fn table_line<R: Input>(rt: &R, t: &mut [i16; 1880]) -> bool {
-    let mut text = [0u8; 7521];
-    stream::read_words(rt, &mut text, t)
+fn table_line<R: Input>(rt: &R, t: &mut [i16; 1880]) -> Option<()> {
+    stream::read_words(rt, t)
 }
 
 // A call begins in the fresh state.
@@ -45,16 +37,15 @@ fn fresh_line<R: Input>(
     t: &[i16; 1880],
     whole: &mut [i16; 234],
     resumed: &mut [i16; 234],
-    tally: &mut [u32; 64],
-) -> bool {
-    let mut text = [0u8; 1];
-    let n = stream::read_full(rt, &mut text);
+    tally: &mut Tally,
+) -> Option<()> {
+    let end = stream::byte(rt);
     let first = state::fresh_state(t, whole);
     let second = state::fresh_state(t, resumed);
-    tally::count(tally, rows::CALLS, false);
-    tally::count(tally, rows::ANSWERS, first != 0);
-    tally::count(tally, rows::ANSWERS, second != 0);
-    n == 1
+    tally.count(Row::Calls as usize, false);
+    tally.count(Row::Answers as usize, first.is_err());
+    tally.count(Row::Answers as usize, second.is_err());
+    end.map(|_| ())
 }
 
 // A call begins in the state of the line.
@@ -62,12 +53,11 @@ fn state_line<R: Input>(
     rt: &R,
     whole: &mut [i16; 234],
     resumed: &mut [i16; 234],
-    tally: &mut [u32; 64],
-) -> bool {
-    let mut text = [0u8; 937];
-    let more = stream::read_words(rt, &mut text, whole);
-    part::fill(whole, 0, resumed);
-    tally::count(tally, rows::CALLS, false);
+    tally: &mut Tally,
+) -> Option<()> {
+    let more = stream::read_words(rt, whole);
+    *resumed = *whole;
+    tally.count(Row::Calls as usize, false);
     more
 }
 
@@ -76,17 +66,13 @@ fn frame_line<R: Input>(
     t: &[i16; 1880],
     whole: &mut [i16; 234],
     resumed: &mut [i16; 234],
-    tally: &mut [u32; 64],
-) -> bool {
-    let mut text = [0u8; 365];
-    let mut f = [0i16; 91];
-    if stream::read_words(rt, &mut text, &mut f) {
-        tally::count(tally, rows::FRAMES, false);
-        decode(t, whole, &f, rows::WHOLE_SAMPLES, tally);
-        decode(t, resumed, &f, rows::RESUMED_SAMPLES, tally);
-        return true;
-    }
-    false
+    tally: &mut Tally,
+) -> Option<()> {
+    let f: [i16; 91] = stream::words(rt)?;
+    tally.count(Row::Frames as usize, false);
+    decode(t, whole, &f, Row::WholeSamples as usize, tally);
+    decode(t, resumed, &f, Row::ResumedSamples as usize, tally);
+    Some(())
 }
 
 // The state that both decoders must have here, and from which the second goes on.
@@ -94,27 +80,19 @@ fn end_line<R: Input>(
     rt: &R,
     whole: &[i16; 234],
     resumed: &mut [i16; 234],
-    tally: &mut [u32; 64],
-) -> bool {
-    let mut text = [0u8; 937];
-    let mut s = [0i16; 234];
-    if stream::read_words(rt, &mut text, &mut s) {
-        tally::words(tally, rows::WHOLE_STATES, &s, 0, whole);
-        tally::words(tally, rows::RESUMED_STATES, &s, 0, resumed);
-        part::fill(&s, 0, resumed);
-        return true;
-    }
-    false
+    tally: &mut Tally,
+) -> Option<()> {
+    let s: [i16; 234] = stream::words(rt)?;
+    tally.words(Row::WholeStates as usize, &s, 0, whole);
+    tally.words(Row::ResumedStates as usize, &s, 0, resumed);
+    *resumed = s;
+    Some(())
 }
 
-fn refusal_line<R: Input>(rt: &R, tally: &mut [u32; 64]) -> bool {
-    let mut text = [0u8; 57];
-    let mut words = [0i16; 14];
-    if stream::read_words(rt, &mut text, &mut words) {
-        refusals::line(&words, tally);
-        return true;
-    }
-    false
+fn refusal_line<R: Input>(rt: &R, tally: &mut Tally) -> Option<()> {
+    let words: [i16; 14] = stream::words(rt)?;
+    refusals::line(&words, tally);
+    Some(())
 }
 
 // The next line. False at the end.
@@ -123,29 +101,25 @@ fn line<R: Input>(
     t: &mut [i16; 1880],
     whole: &mut [i16; 234],
     resumed: &mut [i16; 234],
-    tally: &mut [u32; 64],
-) -> bool {
-    match stream::letter(rt) {
+    tally: &mut Tally,
+) -> Option<()> {
+    match stream::byte(rt)? {
         b'T' => table_line(rt, t),
         b'N' => fresh_line(rt, t, whole, resumed, tally),
         b'S' => state_line(rt, whole, resumed, tally),
         b'F' => frame_line(rt, t, whole, resumed, tally),
         b'E' => end_line(rt, whole, resumed, tally),
         b'R' => refusal_line(rt, tally),
-        _ => false,
+        _ => None,
     }
 }
 
 // All lines, up to 2^32 - 1.
 fn main(rt: HostRuntime) {
-    let mut tally = [0u32; 64];
+    let mut tally = Tally::new();
     let mut t = [0i16; 1880];
     let mut whole = [0i16; 234];
     let mut resumed = [0i16; 234];
-    let mut most: u32 = 4294967295;
-    while 0 < most {
-        let more = line(&rt, &mut t, &mut whole, &mut resumed, &mut tally);
-        most = replay::rest(most, more);
-    }
+    replay::repeat(|| line(&rt, &mut t, &mut whole, &mut resumed, &mut tally));
     rows::print(&rt, &tally);
 }

@@ -3,14 +3,15 @@
 // samples and of the receiver; then the answers of table check, fresh state, frame and fields; and the word that lent memory holds, which a refusal leaves there.
 ghost use Rattle.std.specs.Prelude.{◌≤◌};
 
-use crate::rows;
-use replay::{part, tally};
+use crate::rows::Row;
+use replay::part;
+use replay::tally::Tally;
 
 // A length that the line gives, and no more than there is room for.
 fn length(line: &[i16], at: usize, most: usize) -> usize
     ensures { result ≤ most }
 {
-    crate::length(part::number(line, at) as usize, most)
+    (part::number(line, at) as usize).min(most)
 }
 
 // A table block of zeros but for the initial delay.
@@ -39,13 +40,13 @@ fn state_of(line: &[i16], lent: i16) -> [i16; 250] {
 // The operations on as much as the line says of the room that they are lent.
 fn table_check(line: &[i16], t: &[i16]) -> u32 {
     let n = length(line, 0, t.len());
-    tables::table_check(&t[0..n])
+    refusal::code(tables::table_check(&t[0..n]))
 }
 
 fn fresh_state(line: &[i16], t: &[i16], b: &mut [i16]) -> u32 {
     let n = length(line, 0, t.len());
     let m = length(line, 2, b.len());
-    state::fresh_state(&t[0..n], &mut b[0..m])
+    refusal::code(state::fresh_state(&t[0..n], &mut b[0..m]))
 }
 
 fn frame(line: &[i16], t: &[i16], b: &mut [i16], payload: &[u8], out: &mut [i16]) -> u32 {
@@ -54,7 +55,7 @@ fn frame(line: &[i16], t: &[i16], b: &mut [i16], payload: &[u8], out: &mut [i16]
     let k = length(line, 6, payload.len());
     let room = length(line, 7, out.len());
     let kind = part::number(line, 5) as u32;
-    decoder::code(decoder::frame(
+    refusal::code(decoder::frame(
         &t[0..n],
         &mut b[0..m],
         kind,
@@ -66,32 +67,31 @@ fn frame(line: &[i16], t: &[i16], b: &mut [i16], payload: &[u8], out: &mut [i16]
 fn fields(line: &[i16], payload: &[u8], receiver: &mut [u16]) -> u32 {
     let k = length(line, 6, payload.len());
     let m = length(line, 8, receiver.len());
-    bitstream::fields(&payload[0..k], &mut receiver[0..m])
+    refusal::code(bitstream::fields(&payload[0..k], &mut receiver[0..m]))
 }
 
 // Compares an answer with the number of a place.
-fn answer(line: &[i16], at: usize, found: u32, tally: &mut [u32; 64]) {
-    tally::count(
-        tally,
-        rows::REFUSALS,
+fn answer(line: &[i16], at: usize, found: u32, tally: &mut Tally) {
+    tally.count(
+        Row::Refusals as usize,
         part::number(line, at) as u32 != found,
     );
 }
 
 // A refused call leaves the state as it was.
-fn same_state(line: &[i16], after: [i16; 250], tally: &mut [u32; 64]) {
+fn same_state(line: &[i16], after: [i16; 250], tally: &mut Tally) {
     let due = state_of(line, lent_of(line));
-    tally::words(tally, rows::UNCHANGED, &due, 0, &after);
+    tally.words(Row::Unchanged as usize, &due, 0, &after);
 }
 
 // A refused call leaves the samples as they were.
-fn same_samples(line: &[i16], out: [i16; 100], tally: &mut [u32; 64]) {
+fn same_samples(line: &[i16], out: [i16; 100], tally: &mut Tally) {
     let lent = lent_of(line);
     let due = [lent; 100];
-    tally::words(tally, rows::UNCHANGED, &due, 0, &out);
+    tally.words(Row::Unchanged as usize, &due, 0, &out);
 }
 
-fn fresh_state_call(line: &[i16], tally: &mut [u32; 64]) {
+fn fresh_state_call(line: &[i16], tally: &mut Tally) {
     let t = tables_of(line);
     let mut b = state_of(line, LENT);
     let code = fresh_state(line, &t, &mut b);
@@ -101,7 +101,7 @@ fn fresh_state_call(line: &[i16], tally: &mut [u32; 64]) {
     }
 }
 
-fn frame_call(line: &[i16], tally: &mut [u32; 64]) {
+fn frame_call(line: &[i16], tally: &mut Tally) {
     let t = tables_of(line);
     let payload = [0u8; 16];
     let mut b = state_of(line, LENT);
@@ -115,7 +115,7 @@ fn frame_call(line: &[i16], tally: &mut [u32; 64]) {
 }
 
 // One line of arguments.
-pub(crate) fn line(words: &[i16], tally: &mut [u32; 64]) {
+pub(crate) fn line(words: &[i16], tally: &mut Tally) {
     let t = tables_of(words);
     let payload = [0u8; 16];
     let mut receiver = [0u16; 20];

@@ -1,37 +1,34 @@
 // The rows of the tally: what each counts, and how they are printed.
-use replay::{stream, tally};
+use replay::stream;
+use replay::tally::Tally;
 
-pub const CALLS: usize = 0;
+#[derive(Clone, Copy)]
+pub enum Row {
+    Calls,
+    Frames,
+    Answers,
+    WholeSamples,
+    WholeStates,
+    ResumedSamples,
+    ResumedStates,
+    Refusals,
+    Unchanged,
+}
 
-pub const FRAMES: usize = 1;
-
-pub const ANSWERS: usize = 2;
-
-pub const WHOLE_SAMPLES: usize = 3;
-
-pub const WHOLE_STATES: usize = 4;
-
-pub const RESUMED_SAMPLES: usize = 5;
-
-pub const RESUMED_STATES: usize = 6;
-
-pub const REFUSALS: usize = 7;
-
-pub const UNCHANGED: usize = 8;
-
-pub(crate) fn print<R: Print>(rt: &R, tally: &[u32; 64]) {
-    stream::print_two(
+pub(crate) fn print<R: Print>(rt: &R, tally: &Tally) {
+    let calls = tally.compared(Row::Calls as usize);
+    let frames = tally.compared(Row::Frames as usize);
+    let _ = println!(rt; "calls {calls} frames {frames}");
+    stream::print_row(rt, "answers", tally, Row::Answers as usize);
+    stream::print_row(rt, "whole, samples", tally, Row::WholeSamples as usize);
+    stream::print_row(rt, "whole, states", tally, Row::WholeStates as usize);
+    stream::print_row(rt, "resumed, samples", tally, Row::ResumedSamples as usize);
+    stream::print_row(rt, "resumed, states", tally, Row::ResumedStates as usize);
+    stream::print_row(rt, "refusals", tally, Row::Refusals as usize);
+    stream::print_row(
         rt,
-        b"calls ",
-        tally::compared(tally, CALLS),
-        b" frames ",
-        tally::compared(tally, FRAMES),
+        "unchanged after a refusal",
+        tally,
+        Row::Unchanged as usize,
     );
-    stream::print_row(rt, b"answers", tally, ANSWERS);
-    stream::print_row(rt, b"whole, samples", tally, WHOLE_SAMPLES);
-    stream::print_row(rt, b"whole, states", tally, WHOLE_STATES);
-    stream::print_row(rt, b"resumed, samples", tally, RESUMED_SAMPLES);
-    stream::print_row(rt, b"resumed, states", tally, RESUMED_STATES);
-    stream::print_row(rt, b"refusals", tally, REFUSALS);
-    stream::print_row(rt, b"unchanged after a refusal", tally, UNCHANGED);
 }

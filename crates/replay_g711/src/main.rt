@@ -8,7 +8,9 @@ ghost use Rattle.std.specs.Prelude.{◌≤◌};
 
 mod rows;
 
-use replay::{hex, part, stream, tally};
+use replay::tally::Tally;
+use replay::{part, stream};
+use rows::Row;
 
 // The words of a line with the answers of a law: the law, samples, bytes.
 const ANSWERS: usize = 513;
@@ -24,144 +26,91 @@ const BYTE: u8 = 166;
 // All bytes.
 fn all_bytes() -> [u8; 256] {
     let mut bytes = [0u8; 256];
-    let mut b = 0;
-    while b < 256 {
-        bytes[b] = b as u8;
-        b += 1;
+    for (b, byte) in bytes.iter_mut().enumerate() {
+        *byte = b as u8;
     }
     bytes
 }
 
 // Compares the samples of all bytes, read in one call.
-fn read_all(law: u32, answers: &[i16; ANSWERS], tally: &mut [u32; 64]) {
+fn read_all(law: u32, answers: &[i16; ANSWERS], tally: &mut Tally) {
     let bytes = all_bytes();
     let mut samples = [SAMPLE; 256];
-    let code = g711::read(law, &bytes, &mut samples);
-    tally::count(tally, rows::READ_CODE, code != 0);
-    let mut b = 0;
-    while b < 256 {
-        tally::word(tally, rows::READ, answers[1 + b], samples[b]);
-        b += 1;
-    }
-}
-
-fn wide(byte: u8) -> u16 {
-    byte as u16
+    let code = refusal::code(g711::read(law, &bytes, &mut samples));
+    tally.count(Row::ReadCode as usize, code != 0);
+    tally.words(Row::Read as usize, answers, 1, &samples);
 }
 
 // Compares the bytes of all these samples, written in one call.
-fn write_all(law: u32, answers: &[i16; ANSWERS], tally: &mut [u32; 64]) {
-    let mut samples = [0i16; 256];
-    part::fill(answers, 1, &mut samples);
+fn write_all(law: u32, answers: &[i16; ANSWERS], tally: &mut Tally) {
+    let samples: [i16; 256] = part::array(answers, 1);
     let mut bytes = [BYTE; 256];
-    let code = g711::write(law, &samples, &mut bytes);
-    tally::count(tally, rows::WRITE_CODE, code != 0);
-    let mut b = 0;
-    while b < 256 {
-        let due = part::number(answers, 257 + b);
-        tally::count(tally, rows::WRITE, due != wide(bytes[b]));
-        b += 1;
-    }
+    let code = refusal::code(g711::write(law, &samples, &mut bytes));
+    tally.count(Row::WriteCode as usize, code != 0);
+    let found = bytes.map(|byte| byte as i16);
+    tally.words(Row::Write as usize, answers, 257, &found);
 }
 
-// What a sample is written as by the answers, the last where there are several; 256 where none has it.
-fn due(answers: &[i16; ANSWERS], z: i16) -> u16 {
-    let mut found = 256u16;
-    let mut b = 0;
-    while b < 256 {
-        if basic_op::low16(answers[1 + b]) == basic_op::low16(z) {
-            found = part::number(answers, 257 + b);
-        }
-        b += 1;
-    }
-    found
+// What a sample is written as by the answers, the last where there are several; None where none has it. A stored 256, which is no byte, stands for none, too.
+fn due(answers: &[i16; ANSWERS], z: i16) -> Option<u16> {
+    let samples = &answers[1..257];
+    let place = samples.iter().rposition(|x| *x == z)?;
+    Some(part::number(&answers[257..], place)).filter(|byte| *byte != 256)
 }
 
 // Compares what one sample is written as, or that it is refused and nothing written.
-fn write_one(law: u32, answers: &[i16; ANSWERS], z: i16, tally: &mut [u32; 64]) {
-    let samples = [z; 1];
-    let mut byte = [BYTE; 1];
-    let code = g711::write(law, &samples, &mut byte);
+fn write_one(law: u32, answers: &[i16; ANSWERS], z: i16, tally: &mut Tally) {
+    let samples = [z];
+    let mut byte = [BYTE];
+    let code = refusal::code(g711::write(law, &samples, &mut byte));
     let byte = byte[0];
-    let found = due(answers, z);
-    if found == 256 {
-        tally::count(tally, rows::REFUSED, code != 17);
-        tally::count(tally, rows::UNTOUCHED, byte != BYTE);
-    } else {
-        tally::count(tally, rows::TAKEN, code != 0);
-        tally::count(tally, rows::ONE, wide(byte) != found);
+    match due(answers, z) {
+        Some(due) => {
+            tally.count(Row::Taken as usize, code != 0);
+            tally.count(Row::One as usize, u16::from(byte) != due);
+        }
+        None => {
+            tally.count(Row::Refused as usize, code != 17);
+            tally.count(Row::Untouched as usize, byte != BYTE);
+        }
     }
 }
 
 // Every sample of 16 bits.
-fn write_each(law: u32, answers: &[i16; ANSWERS], tally: &mut [u32; 64]) {
-    let mut n: u32 = 0;
-    while n < 65536 {
-        write_one(law, answers, hex::word(n), tally);
-        n += 1;
+fn write_each(law: u32, answers: &[i16; ANSWERS], tally: &mut Tally) {
+    for n in 0..=u16::MAX {
+        write_one(law, answers, n.cast_signed(), tally);
     }
 }
 
-fn answers_line<R: Input>(rt: &R, tally: &mut [u32; 64]) -> bool {
-    let mut text = [0u8; 2053];
-    let mut answers = [0i16; ANSWERS];
-    let whole = stream::read_words(rt, &mut text, &mut answers);
-    if whole {
-        let law = part::number(&answers, 0) as u32;
-        read_all(law, &answers, tally);
-        write_all(law, &answers, tally);
-        write_each(law, &answers, tally);
-    }
-    whole
-}
-
-// Whether samples are as they were before a call.
-fn kept_samples(samples: &[i16; MOST]) -> bool {
-    let mut kept = true;
-    let mut k = 0;
-    while k < MOST {
-        if basic_op::low16(samples[k]) != 5 {
-            kept = false;
-        }
-        k += 1;
-    }
-    kept
-}
-
-// Whether bytes are.
-fn kept_bytes(bytes: &[u8; MOST]) -> bool {
-    let mut kept = true;
-    let mut k = 0;
-    while k < MOST {
-        if bytes[k] != BYTE {
-            kept = false;
-        }
-        k += 1;
-    }
-    kept
+fn answers_line<R: Input>(rt: &R, tally: &mut Tally) -> Option<()> {
+    let answers: [i16; ANSWERS] = stream::words(rt)?;
+    let law = part::number(&answers, 0) as u32;
+    read_all(law, &answers, tally);
+    write_all(law, &answers, tally);
+    write_each(law, &answers, tally);
+    Some(())
 }
 
 // Bytes of many values, one for each place.
 fn leg() -> [u8; MOST] {
     let mut bytes = [0u8; MOST];
-    let mut k = 0;
-    while k < MOST {
-        bytes[k] = ((7 * k + 3) % 256) as u8;
-        k += 1;
+    for (k, byte) in bytes.iter_mut().enumerate() {
+        *byte = ((7 * k + 3) % 256) as u8;
     }
     bytes
 }
 
 // A call that reads n bytes into m samples.
-fn read_case(law: u32, n: usize, m: usize, code: u32, tally: &mut [u32; 64])
+fn read_case(law: u32, n: usize, m: usize, code: u32, tally: &mut Tally)
     requires { (n ≤ 300) × (m ≤ 300) }
 {
     let bytes = leg();
     let mut samples = [SAMPLE; MOST];
-    let found = g711::read(law, &bytes[0..n], &mut samples[0..m]);
-    tally::count(tally, rows::CALL, found != code);
+    let found = refusal::code(g711::read(law, &bytes[0..n], &mut samples[0..m]));
+    tally.count(Row::Call as usize, found != code);
     if code != 0 {
-        tally::count(tally, rows::KEPT, !kept_samples(&samples));
+        tally.count(Row::Kept as usize, samples != [SAMPLE; MOST]);
     }
 }
 
@@ -169,57 +118,49 @@ fn read_case(law: u32, n: usize, m: usize, code: u32, tally: &mut [u32; 64])
 fn leg_samples(law: u32, place: usize) -> [i16; MOST] {
     let bytes = leg();
     let mut samples = [0i16; MOST];
-    g711::read(law, &bytes, &mut samples);
-    if place < MOST {
-        samples[place] = 1;
+    let _ = g711::read(law, &bytes, &mut samples);
+    if let Some(sample) = samples.get_mut(place) {
+        *sample = 1;
     }
     samples
 }
 
 // A call that writes m samples into n bytes.
-fn write_case(law: u32, n: usize, m: usize, place: usize, code: u32, tally: &mut [u32; 64])
+fn write_case(law: u32, n: usize, m: usize, place: usize, code: u32, tally: &mut Tally)
     requires { (n ≤ 300) × (m ≤ 300) }
 {
     let samples = leg_samples(law, place);
     let mut bytes = [BYTE; MOST];
-    let found = g711::write(law, &samples[0..m], &mut bytes[0..n]);
-    tally::count(tally, rows::CALL, found != code);
+    let found = refusal::code(g711::write(law, &samples[0..m], &mut bytes[0..n]));
+    tally.count(Row::Call as usize, found != code);
     if code != 0 {
-        tally::count(tally, rows::KEPT, !kept_bytes(&bytes));
+        tally.count(Row::Kept as usize, bytes != [BYTE; MOST]);
     }
 }
 
-fn call_line<R: Input>(rt: &R, tally: &mut [u32; 64]) -> bool {
-    let mut text = [0u8; 29];
-    let mut line = [0i16; 7];
-    let whole = stream::read_words(rt, &mut text, &mut line);
-    if whole {
-        let law = 65536 * (part::number(&line, 0) as u32) + part::number(&line, 1) as u32;
-        let n = words::lesser(part::number(&line, 2) as usize, MOST);
-        let m = words::lesser(part::number(&line, 3) as usize, MOST);
-        let place = part::number(&line, 4) as usize;
-        read_case(law, n, m, part::number(&line, 5) as u32, tally);
-        write_case(law, n, m, place, part::number(&line, 6) as u32, tally);
-    }
-    whole
+fn call_line<R: Input>(rt: &R, tally: &mut Tally) -> Option<()> {
+    let line: [i16; 7] = stream::words(rt)?;
+    let law = part::wide(&line, 0);
+    let n = MOST.min(part::number(&line, 2) as usize);
+    let m = MOST.min(part::number(&line, 3) as usize);
+    let place = part::number(&line, 4) as usize;
+    read_case(law, n, m, part::number(&line, 5) as u32, tally);
+    write_case(law, n, m, place, part::number(&line, 6) as u32, tally);
+    Some(())
 }
 
 // The next line. False at the end.
-fn line<R: Input>(rt: &R, tally: &mut [u32; 64]) -> bool {
-    match stream::letter(rt) {
+fn line<R: Input>(rt: &R, tally: &mut Tally) -> Option<()> {
+    match stream::byte(rt)? {
         b'T' => answers_line(rt, tally),
         b'C' => call_line(rt, tally),
-        _ => false,
+        _ => None,
     }
 }
 
 // All lines, up to 2^32 - 1.
 fn main(rt: HostRuntime) {
-    let mut tally = [0u32; 64];
-    let mut most: u32 = 4294967295;
-    while 0 < most {
-        let more = line(&rt, &mut tally);
-        most = replay::rest(most, more);
-    }
+    let mut tally = Tally::new();
+    replay::repeat(|| line(&rt, &mut tally));
     rows::print_all(&rt, &tally);
 }

@@ -1,38 +1,58 @@
 // The rows of the tally: what each counts, and how they are printed.
-use replay::{stream, tally};
+use replay::stream;
+use replay::tally::Tally;
 
-// Of all bytes of a law in one call, and all their samples.
-pub const READ_CODE: usize = 0;
+#[derive(Clone, Copy)]
+pub enum Row {
+    // Of all bytes of a law in one call, and all their samples.
+    ReadCode,
+    Read,
+    WriteCode,
+    Write,
+    // Of each sample of 16 bits by itself: of those that are table values, and of the others.
+    Taken,
+    One,
+    Refused,
+    Untouched,
+    // Of single calls.
+    Call,
+    Kept,
+}
 
-pub const READ: usize = 1;
-
-pub const WRITE_CODE: usize = 2;
-
-pub const WRITE: usize = 3;
-
-// Of each sample of 16 bits by itself: of those that are table values, and of the others.
-pub const TAKEN: usize = 4;
-
-pub const ONE: usize = 5;
-
-pub const REFUSED: usize = 6;
-
-pub const UNTOUCHED: usize = 7;
-
-// Of single calls.
-pub const CALL: usize = 8;
-
-pub const KEPT: usize = 9;
-
-pub(crate) fn print_all<R: Print>(rt: &R, tally: &[u32; 64]) {
-    stream::print_row(rt, b"g711::read, all bytes, code", tally, READ_CODE);
-    stream::print_row(rt, b"g711::read, all bytes", tally, READ);
-    stream::print_row(rt, b"g711::write, their samples, code", tally, WRITE_CODE);
-    stream::print_row(rt, b"g711::write, their samples", tally, WRITE);
-    stream::print_row(rt, b"g711::write, each sample, code", tally, TAKEN);
-    stream::print_row(rt, b"g711::write, each sample", tally, ONE);
-    stream::print_row(rt, b"no table value, code", tally, REFUSED);
-    stream::print_row(rt, b"no table value, nothing written", tally, UNTOUCHED);
-    stream::print_row(rt, b"calls, code", tally, CALL);
-    stream::print_row(rt, b"refused calls, nothing written", tally, KEPT);
+pub(crate) fn print_all<R: Print>(rt: &R, tally: &Tally) {
+    stream::print_row(
+        rt,
+        "g711::read, all bytes, code",
+        tally,
+        Row::ReadCode as usize,
+    );
+    stream::print_row(rt, "g711::read, all bytes", tally, Row::Read as usize);
+    stream::print_row(
+        rt,
+        "g711::write, their samples, code",
+        tally,
+        Row::WriteCode as usize,
+    );
+    stream::print_row(rt, "g711::write, their samples", tally, Row::Write as usize);
+    stream::print_row(
+        rt,
+        "g711::write, each sample, code",
+        tally,
+        Row::Taken as usize,
+    );
+    stream::print_row(rt, "g711::write, each sample", tally, Row::One as usize);
+    stream::print_row(rt, "no table value, code", tally, Row::Refused as usize);
+    stream::print_row(
+        rt,
+        "no table value, nothing written",
+        tally,
+        Row::Untouched as usize,
+    );
+    stream::print_row(rt, "calls, code", tally, Row::Call as usize);
+    stream::print_row(
+        rt,
+        "refused calls, nothing written",
+        tally,
+        Row::Kept as usize,
+    );
 }

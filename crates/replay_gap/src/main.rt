@@ -7,23 +7,29 @@ mod show;
 mod values;
 
 use replay::{part, stream};
-use values::LENGTH;
+use values::Values;
 
-// The places of the counts: pairs, frames that both decoders of the pair got, and frames that each of them concealed.
-const PAIRS: usize = 0;
+// A decoder of the pair: its state, and how many frames it has concealed.
+#[derive(Drop)]
+struct Side {
+    b: [i16; 234],
+    concealed: u32,
+}
 
-const FRAMES: usize = 1;
-
-const CONCEALED_A: usize = 2;
-
-const CONCEALED_B: usize = 3;
+// The tables, the pair of decoders, the number of the pair, and how many frames both got.
+#[derive(Drop)]
+struct Pair {
+    t: [i16; 1880],
+    first: Side,
+    second: Side,
+    number: u32,
+    frames: u32,
+}
 
 // Prints a refusal, and answers its number.
 fn refused<R: Print>(rt: &R, code: u32) -> u32 {
     if code != 0 {
-        stream::print_text(rt, b"refused ");
-        stream::print_decimal(rt, code as u64);
-        stream::print_text(rt, b"\n");
+        let _ = println!(rt; "refused {code}");
     }
     code
 }
@@ -37,214 +43,138 @@ fn frame<R: Print>(
     payload: [u8; 10],
     out: &mut [i16; 80],
 ) -> u32 {
-    let bytes: &[u8] = &payload;
-    let n = words::lesser(kind::payload_length(kind), bytes.len());
+    let n = payload.len().min(kind::payload_length(kind));
     refused(
         rt,
-        decoder::code(decoder::frame(t, b, kind, &bytes[0..n], out)),
+        refusal::code(decoder::frame(t, b, kind, &payload[..n], out)),
     )
 }
 
-// One more, and no more than fits.
-fn one_more(x: u32) -> u32 {
-    if x < 4294967295 { x + 1 } else { x }
-}
-
-// How many frames are concealed with this one.
-fn concealed(count: u32, kind: u32, code: u32) -> u32 {
-    if code != 0 {
-        return count;
-    }
-    if kind == 0 { count } else { one_more(count) }
-}
-
-// ---- lines for one decoder
-
-// The payload of a line, behind kind and number.
+// The payload of a line for one decoder, behind kind and number.
 fn payload(line: &[i16; 12]) -> [u8; 10] {
-    let mut rest = [0i16; 11];
-    part::fill(line, 1, &mut rest);
+    let rest: [i16; 11] = part::array(line, 1);
     part::payload(&rest)
 }
 
-// The frame of a line as many times as it says. Answers how many frames the decoder has concealed then.
-fn past<R: Print>(
-    rt: &R,
-    t: &[i16; 1880],
-    b: &mut [i16; 234],
-    line: &[i16; 12],
-    count: u32,
-) -> u32 {
-    let kind = part::number(line, 0) as u32;
-    let bytes = payload(line);
-    let mut out = [0i16; 80];
-    let mut n = count;
-    let mut left = part::number(line, 1);
-    while 0 < left {
-        let code = frame(rt, t, b, kind, bytes, &mut out);
-        n = concealed(n, kind, code);
-        left -= 1;
+impl Side {
+    fn new() -> Side {
+        Side {
+            b: [0; 234],
+            concealed: 0,
+        }
     }
-    n
-}
 
-fn line_a<R: Input + Print>(
-    rt: &R,
-    t: &[i16; 1880],
-    a: &mut [i16; 234],
-    counts: &mut [u32; 4],
-) -> bool {
-    let mut text = [0u8; 49];
-    let mut line = [0i16; 12];
-    if stream::read_words(rt, &mut text, &mut line) {
-        counts[CONCEALED_A] = past(rt, t, a, &line, counts[CONCEALED_A]);
-        return true;
+    // Begins afresh.
+    fn start<R: Print>(&mut self, rt: &R, t: &[i16; 1880]) {
+        refused(rt, refusal::code(state::fresh_state(t, &mut self.b)));
+        self.concealed = 0;
     }
-    false
-}
 
-fn line_b<R: Input + Print>(
-    rt: &R,
-    t: &[i16; 1880],
-    b: &mut [i16; 234],
-    counts: &mut [u32; 4],
-) -> bool {
-    let mut text = [0u8; 49];
-    let mut line = [0i16; 12];
-    if stream::read_words(rt, &mut text, &mut line) {
-        counts[CONCEALED_B] = past(rt, t, b, &line, counts[CONCEALED_B]);
-        return true;
+    // Counts a frame that is decoded where it is concealed.
+    fn count(&mut self, kind: u32, decoded: bool) {
+        if decoded && kind != 0 {
+            self.concealed = self.concealed.saturating_add(1);
+        }
     }
-    false
-}
 
-// ---- lines for both
+    // A line for this decoder alone: its frame as many times as it says.
+    fn past<R: Input + Print>(&mut self, rt: &R, t: &[i16; 1880]) -> Option<()> {
+        let line: [i16; 12] = stream::words(rt)?;
+        let kind = part::number(&line, 0) as u32;
+        let bytes = payload(&line);
+        let mut out = [0i16; 80];
+        for _ in 0..part::number(&line, 1) {
+            let code = frame(rt, t, &mut self.b, kind, bytes, &mut out);
+            self.count(kind, code == 0);
+        }
+        Some(())
+    }
 
-fn table_line<R: Input>(rt: &R, t: &mut [i16; 1880]) -> bool {
-    let mut text = [0u8; 7521];
-    stream::read_words(rt, &mut text, t)
-}
-
-fn pair_line<R: Input + Print>(
-    rt: &R,
-    t: &[i16; 1880],
-    a: &mut [i16; 234],
-    b: &mut [i16; 234],
-    counts: &mut [u32; 4],
-) -> bool {
-    let mut text = [0u8; 1];
-    let n = stream::read_full(rt, &mut text);
-    refused(rt, state::fresh_state(t, a));
-    refused(rt, state::fresh_state(t, b));
-    counts[PAIRS] = one_more(counts[PAIRS]);
-    counts[FRAMES] = 0;
-    counts[CONCEALED_A] = 0;
-    counts[CONCEALED_B] = 0;
-    n == 1
-}
-
-// A frame by one decoder, and its values. Answers 0 or the refusal.
-fn decode<R: Print>(
-    rt: &R,
-    t: &[i16; 1880],
-    b: &mut [i16; 234],
-    kind: u32,
-    payload: [u8; 10],
-    v: &mut [i16; LENGTH],
-) -> u32 {
-    let mut out = [0i16; 80];
-    values::before(b, v);
-    values::parameters(
-        parameters::parameters(t, plc::decide(kind, &payload), state::read_params(b)),
-        v,
-    );
-    let code = frame(rt, t, b, kind, payload, &mut out);
-    values::samples(&out, v);
-    code
+    // A frame, and its values where it isn't refused.
+    fn decode<R: Print>(
+        &mut self,
+        rt: &R,
+        t: &[i16; 1880],
+        kind: u32,
+        payload: [u8; 10],
+    ) -> Option<Values> {
+        let mut out = [0i16; 80];
+        let before = self.b;
+        let d = parameters::parameters(t, plc::decide(kind, &payload), state::read_params(&before));
+        let code = frame(rt, t, &mut self.b, kind, payload, &mut out);
+        if code == 0 {
+            Some(values::of_frame(&before, d, out))
+        } else {
+            None
+        }
+    }
 }
 
 // What the states of both tell of this frame and of all later ones that both get: 0 nothing, 1 parameters, 2 pulses too, 3 samples too.
 fn told<R: Print>(rt: &R, a: &[i16; 234], b: &[i16; 234]) -> u32 {
-    let answer = agree::agree(a, b);
-    match answer {
-        agree::Agreed::Refused(n) => refused(rt, n),
-        agree::Agreed::Nothing => 0,
-        agree::Agreed::Parameters => 1,
-        agree::Agreed::Pulses => 2,
-        agree::Agreed::Samples => 3,
+    match agree::agree(a, b) {
+        Err(r) => refused(rt, r.number()),
+        Ok(found) => found as u32,
     }
 }
 
-// A frame for both, and what is printed of it: nothing but the refusals where one is refused.
-fn common<R: Print>(
-    rt: &R,
-    t: &[i16; 1880],
-    a: &mut [i16; 234],
-    b: &mut [i16; 234],
-    line: &[i16; 11],
-    counts: &mut [u32; 4],
-) {
-    let kind = part::number(line, 0) as u32;
-    let payload = part::payload(line);
-    let mut first = [0i16; LENGTH];
-    let mut second = [0i16; LENGTH];
-    let agree = told(rt, a, b);
-    let code_a = decode(rt, t, a, kind, payload, &mut first);
-    let code_b = decode(rt, t, b, kind, payload, &mut second);
-    if code_a == 0 && code_b == 0 {
-        counts[FRAMES] = one_more(counts[FRAMES]);
-        show::frame(rt, counts[PAIRS], counts[FRAMES], kind, agree);
-        show::decoder(rt, b"a", counts[CONCEALED_A], &first);
-        show::decoder(rt, b"b", counts[CONCEALED_B], &second);
-        show::equal(rt, &first, &second);
+impl Pair {
+    // A new pair.
+    fn start<R: Input + Print>(&mut self, rt: &R) -> Option<()> {
+        let end = stream::byte(rt);
+        self.first.start(rt, &self.t);
+        self.second.start(rt, &self.t);
+        self.number = self.number.saturating_add(1);
+        self.frames = 0;
+        end.map(|_| ())
     }
-    counts[CONCEALED_A] = concealed(counts[CONCEALED_A], kind, code_a);
-    counts[CONCEALED_B] = concealed(counts[CONCEALED_B], kind, code_b);
-}
 
-fn common_line<R: Input + Print>(
-    rt: &R,
-    t: &[i16; 1880],
-    a: &mut [i16; 234],
-    b: &mut [i16; 234],
-    counts: &mut [u32; 4],
-) -> bool {
-    let mut text = [0u8; 45];
-    let mut line = [0i16; 11];
-    if stream::read_words(rt, &mut text, &mut line) {
-        common(rt, t, a, b, &line, counts);
-        return true;
+    // What is printed of a frame for both: nothing but the refusals where one is refused.
+    fn show<R: Print>(&mut self, rt: &R, kind: u32, agree: u32, a: &Values, b: &Values) {
+        self.frames = self.frames.saturating_add(1);
+        show::frame(rt, self.number, self.frames, kind, agree);
+        show::decoder(rt, "a", self.first.concealed, a);
+        show::decoder(rt, "b", self.second.concealed, b);
+        show::equal(rt, a, b);
     }
-    false
-}
 
-// The next line. False at the end.
-fn line<R: Input + Print>(
-    rt: &R,
-    t: &mut [i16; 1880],
-    a: &mut [i16; 234],
-    b: &mut [i16; 234],
-    counts: &mut [u32; 4],
-) -> bool {
-    match stream::letter(rt) {
-        b'T' => table_line(rt, t),
-        b'P' => pair_line(rt, t, a, b, counts),
-        b'A' => line_a(rt, t, a, counts),
-        b'B' => line_b(rt, t, b, counts),
-        b'C' => common_line(rt, t, a, b, counts),
-        _ => false,
+    // A line for both.
+    fn common<R: Input + Print>(&mut self, rt: &R) -> Option<()> {
+        let line: [i16; 11] = stream::words(rt)?;
+        let kind = part::number(&line, 0) as u32;
+        let payload = part::payload(&line);
+        let agree = told(rt, &self.first.b, &self.second.b);
+        let first = self.first.decode(rt, &self.t, kind, payload);
+        let second = self.second.decode(rt, &self.t, kind, payload);
+        if let (Some(a), Some(b)) = (&first, &second) {
+            self.show(rt, kind, agree, a, b);
+        }
+        self.first.count(kind, first.is_some());
+        self.second.count(kind, second.is_some());
+        Some(())
+    }
+
+    // The next line. None at the end.
+    fn line<R: Input + Print>(&mut self, rt: &R) -> Option<()> {
+        match stream::byte(rt)? {
+            b'T' => stream::read_words(rt, &mut self.t),
+            b'P' => self.start(rt),
+            b'A' => self.first.past(rt, &self.t),
+            b'B' => self.second.past(rt, &self.t),
+            b'C' => self.common(rt),
+            _ => None,
+        }
     }
 }
 
 // All lines, up to 2^32 - 1.
 fn main(rt: HostRuntime) {
-    let mut counts = [0u32; 4];
-    let mut t = [0i16; 1880];
-    let mut a = [0i16; 234];
-    let mut b = [0i16; 234];
-    let mut most: u32 = 4294967295;
-    while 0 < most {
-        let more = line(&rt, &mut t, &mut a, &mut b, &mut counts);
-        most = replay::rest(most, more);
-    }
+    let mut pair = Pair {
+        t: [0; 1880],
+        first: Side::new(),
+        second: Side::new(),
+        number: 0,
+        frames: 0,
+    };
+    replay::repeat(|| pair.line(&rt));
 }

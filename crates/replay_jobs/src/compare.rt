@@ -3,30 +3,23 @@ ghost use Rattle.std.specs.Prelude.{◌≤◌, length};
 
 use files::Input;
 use std::io::Print;
-use words::lesser;
 
-// How many bytes of two files were read, how many differ, the CRC-32 of the first, and whether there may be more.
-#[derive(Clone, Copy)]
+// How many bytes of two files were read, how many differ as far as both go, and the CRC-32 of the first.
+#[derive(Clone, Copy, Default)]
 struct Compared {
     first: u64,
     second: u64,
     differ: u64,
     sum: u32,
-    more: bool,
-}
-
-fn say(rt: &HostRuntime, text: &[u8]) {
-    let _ = rt.write_all(text);
 }
 
 // How many bytes there are, where there is a file.
 fn say_bytes(rt: &HostRuntime, from: &Option<Input>, n: u64) {
     if from.is_none() {
-        say(rt, b"no file");
-        return;
+        let _ = print!(rt; "no file");
+    } else {
+        let _ = print!(rt; "{n} bytes");
     }
-    let _ = rt.print(n);
-    say(rt, b" bytes");
 }
 
 // The next bytes of a file, as many as there is room for; none where there is no file.
@@ -34,85 +27,57 @@ fn read(from: &Option<Input>, room: &mut [u8]) -> usize
     ensures { result ≤ length room.new }
 {
     match from {
-        Some(from) => files::read_full(from, room),
+        Some(from) => from.read_full(room),
         None => 0,
     }
 }
 
 // How many bytes differ, as far as both go.
 fn differing(a: &[u8], b: &[u8]) -> u64 {
-    let n = lesser(a.len(), b.len());
-    let mut differ = 0u64;
-    let mut i = 0;
-    while i < n {
-        if a[i] != b[i] {
-            differ = std::num::wrapping_add_u64(differ, 1);
-        }
-        i += 1;
-    }
-    differ
+    a.iter().zip(b).filter(|(x, y)| **x != **y).count() as u64
 }
 
-// One chunk more of both files.
-fn compare_chunk(
-    a: &Option<Input>,
-    b: &Option<Input>,
-    c: Compared,
-    x: &mut [u8],
-    y: &mut [u8],
-) -> Compared {
-    let n = read(a, x);
-    let m = read(b, y);
-    let differ = differing(&x[0..n], &y[0..m]);
-    let sum = crc32::more(c.sum, &x[0..n]);
+// With one chunk more of both files.
+fn further(c: Compared, a: &[u8], b: &[u8]) -> Compared {
     Compared {
-        first: std::num::wrapping_add_u64(c.first, n as u64),
-        second: std::num::wrapping_add_u64(c.second, m as u64),
-        differ: std::num::wrapping_add_u64(c.differ, differ),
-        sum,
-        more: (0 < n) | (0 < m),
+        first: c.first.wrapping_add(a.len() as u64),
+        second: c.second.wrapping_add(b.len() as u64),
+        differ: c.differ.wrapping_add(differing(a, b)),
+        sum: crc32::more(c.sum, a),
     }
 }
 
 // Two open files.
 fn compare(a: &Option<Input>, b: &Option<Input>) -> Compared {
-    let mut first = [0u8; 65536];
-    let mut second = [0u8; 65536];
-    let x: &mut [u8] = &mut first;
-    let y: &mut [u8] = &mut second;
-    let mut c = Compared {
-        first: 0,
-        second: 0,
-        differ: 0,
-        sum: 0,
-        more: true,
-    };
-    let mut most = job::parts::ALL;
-    while 0 < most {
-        c = compare_chunk(a, b, c, x, y);
-        most = replay::rest(most, c.more);
+    let mut x = [0u8; 65536];
+    let mut y = [0u8; 65536];
+    let mut c = Compared::default();
+    for _ in 0..job::parts::ALL {
+        let n = read(a, &mut x);
+        let m = read(b, &mut y);
+        if n == 0 && m == 0 {
+            break;
+        }
+        c = further(c, &x[..n], &y[..m]);
     }
     c
 }
 
 fn open(rt: &HostRuntime, name: &[u8]) -> Option<Input> {
-    match files::open(rt, name) {
-        Ok(file) => Some(Input::Named(file)),
-        Err(_) => None,
-    }
+    files::open(rt, name).ok().map(Input::Named)
 }
 
 pub(crate) fn same(rt: &HostRuntime, a: &[u8], b: &[u8]) {
     let x = open(rt, a);
     let y = open(rt, b);
-    let c = compare(&x, &y);
-    let sum = c.sum;
-    say_bytes(rt, &x, c.first);
-    say(rt, b", ");
-    say_bytes(rt, &y, c.second);
-    say(rt, b", differ ");
-    let _ = rt.print(c.differ);
-    say(rt, b", CRC-32 ");
-    let _ = print!(rt; "{sum:08x}");
-    say(rt, b"\n");
+    let Compared {
+        first,
+        second,
+        differ,
+        sum,
+    } = compare(&x, &y);
+    say_bytes(rt, &x, first);
+    let _ = print!(rt; ", ");
+    say_bytes(rt, &y, second);
+    let _ = println!(rt; ", differ {differ}, CRC-32 {sum:08x}");
 }

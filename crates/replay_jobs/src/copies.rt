@@ -5,15 +5,14 @@ use files::Input;
 use std::fs::{File, OpenOptions};
 use std::io;
 use std::os::unix::fs::FileExt;
-use words::lesser;
 
 // One chunk more, of which `left` bytes are wanted; how many are left then, 0 where there is no more.
 fn chunk(from: &Input, to: &File, left: u32, space: &mut [u8]) -> u32
     requires { 0 < left }
     ensures { result < left }
 {
-    let most = lesser(left as usize, space.len());
-    let n = files::read_full(from, &mut space[0..most]);
+    let most = space.len().min(left as usize);
+    let n = from.read_full(&mut space[0..most]);
     if n == 0 {
         return 0;
     }
@@ -21,7 +20,7 @@ fn chunk(from: &Input, to: &File, left: u32, space: &mut [u8]) -> u32
     left - n as u32
 }
 
-// At most `most` bytes of an open file to another.
+// At most `most` bytes of an open file to another. Counted by hand: a chunk takes as many as it reads.
 fn bytes(from: &Input, to: &File, most: u32) {
     let mut buffer = [0u8; 65536];
     let space: &mut [u8] = &mut buffer;
@@ -55,10 +54,8 @@ fn append(rt: &HostRuntime, name: &[u8]) -> io::Result<File> {
 // A file's bytes behind those of another, so many times.
 pub(crate) fn add(rt: &HostRuntime, from: &[u8], to: &[u8], times: u32) {
     if let Ok(to) = append(rt, to) {
-        let mut left = times;
-        while 0 < left {
+        for _ in 0..times {
             file(rt, from, &to, job::parts::ALL);
-            left -= 1;
         }
     }
 }
@@ -75,7 +72,7 @@ pub(crate) fn damage(rt: &HostRuntime, name: &[u8], at: u32) {
     if let Ok(file) = update(rt, name) {
         let mut byte = [0u8; 1];
         let _ = file.read_at(&mut byte, at as u64);
-        byte[0] = std::num::wrapping_add_u8(byte[0], 1);
+        byte[0] = byte[0].wrapping_add(1);
         let _ = file.write_at(&byte, at as u64);
     }
 }

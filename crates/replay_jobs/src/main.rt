@@ -9,13 +9,10 @@
 //   mkdir FOLDER
 #![tactic(auto)]
 
-ghost use Rattle.std.specs.Prelude.{◌<◌, ◌≤◌, length};
-
 mod compare;
 mod copies;
 mod word;
 
-use files::Input;
 use std::io::Print;
 use std::{fs, io};
 use word::{number, word};
@@ -40,46 +37,24 @@ fn make_folder(rt: &HostRuntime, name: &[u8]) -> io::Result<()> {
 fn step(rt: &HostRuntime, line: &[u8]) {
     let _ = rt.write_all(line);
     let _ = rt.write_all(b"\n");
-    if line.len() == 0 {
-        return;
-    }
     let a = word(line, 1);
     let b = word(line, 2);
-    match line[0] {
-        b'r' => resume(rt, line),
-        b'c' => copies::copy(rt, a, b, number(line, 3)),
-        b'a' => copies::add(rt, a, b, number(line, 3)),
-        b'd' => copies::damage(rt, a, number(line, 2)),
-        b's' => compare::same(rt, a, b),
-        b'u' => {
+    match line {
+        [b'r', ..] => resume(rt, line),
+        [b'c', ..] => copies::copy(rt, a, b, number(line, 3)),
+        [b'a', ..] => copies::add(rt, a, b, number(line, 3)),
+        [b'd', ..] => copies::damage(rt, a, number(line, 2)),
+        [b's', ..] => compare::same(rt, a, b),
+        [b'u', ..] => {
             let _ = files::remove(rt, a);
         }
-        b'm' => {
+        [b'm', ..] => {
             let _ = make_folder(rt, a);
         }
         _ => {}
     }
 }
 
-// The line from a place on; the place behind it.
-fn line(rt: &HostRuntime, text: &[u8], from: usize) -> usize
-    requires { from < length text.now }
-    ensures { (from < result) × (result ≤ length text.now) }
-{
-    let to = octets::find(text, from, text.len(), 10);
-    step(rt, &text[from..to]);
-    if to < text.len() { to + 1 } else { to }
-}
-
-fn steps(rt: &HostRuntime, text: &[u8]) {
-    let mut at = 0;
-    while at < text.len() {
-        at = line(rt, text, at);
-    }
-}
-
 fn main(rt: HostRuntime) {
-    let mut text = [0u8; 65536];
-    let n = files::read_full(&Input::Standard(rt.stdin()), &mut text);
-    steps(&rt, &text[0..n]);
+    replay::lines::each(&rt, |line| step(&rt, line));
 }

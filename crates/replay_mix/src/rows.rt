@@ -1,16 +1,23 @@
 // The rows of the tally: what each counts, and how they are printed.
-use replay::{stream, tally};
+use replay::stream;
+use replay::tally::Tally;
 
-pub const CODE: usize = 0;
+#[derive(Clone, Copy)]
+pub enum Row {
+    Code,
+    // Of calls that are not refused.
+    Heard,
+    // Of those that are.
+    Kept,
+}
 
-// Of calls that are not refused.
-pub const HEARD: usize = 1;
-
-// Of those that are.
-pub const KEPT: usize = 2;
-
-pub(crate) fn print_all<R: Print>(rt: &R, tally: &[u32; 64]) {
-    stream::print_row(rt, b"mix::mix, code", tally, CODE);
-    stream::print_row(rt, b"heard, check sum", tally, HEARD);
-    stream::print_row(rt, b"refused calls, nothing written", tally, KEPT);
+pub(crate) fn print_all<R: Print>(rt: &R, tally: &Tally) {
+    stream::print_row(rt, "mix::mix, code", tally, Row::Code as usize);
+    stream::print_row(rt, "heard, check sum", tally, Row::Heard as usize);
+    stream::print_row(
+        rt,
+        "refused calls, nothing written",
+        tally,
+        Row::Kept as usize,
+    );
 }

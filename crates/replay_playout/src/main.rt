@@ -8,10 +8,12 @@ ghost use Rattle.std.specs.Prelude.{◌≤◌};
 
 mod rows;
 
-use playout::Planned;
-use replay::{part, stream, tally};
+use refusal::Refusal;
+use replay::tally::Tally;
+use replay::{part, stream};
+use rows::Row;
 
-// The arrivals that are held.
+// The arrivals that are held: numbers and times are two lists, as `playout` is lent them.
 const HELD: usize = 4096;
 
 // The most numbers, times or kinds that a call lends.
@@ -27,42 +29,15 @@ struct Found {
     lost: u32,
 }
 
-// The number of 32 bits in words n and n + 1.
-fn wide(line: &[i16], n: usize) -> u32
-    requires { n ≤ 40 }
-{
-    65536 * (part::number(line, n) as u32) + part::number(line, n + 1) as u32
-}
-
-// Whether kinds are as they were before a call.
-fn kept(kinds: &[u32; ROOM]) -> bool {
-    let mut kept = true;
-    let mut k = 0;
-    while k < ROOM {
-        if kinds[k] != BEFORE {
-            kept = false;
-        }
-        k += 1;
-    }
-    kept
-}
-
-// A number put to its place, where there is one.
-fn put(held: &mut [u32], place: usize, x: u32) {
-    if place < held.len() {
-        held[place] = x;
-    }
-}
-
-// The eight numbers of a line that begin at word `from`, put to their places.
+// The eight numbers of a line that begin at word `from`, put to their places where there are these.
 fn put_all(held: &mut [u32], line: &[i16], from: usize)
     requires { from ≤ 20 }
 {
     let place = part::number(line, 0) as usize;
-    let mut k = 0;
-    while k < 8 {
-        put(held, place + k, wide(line, from + 2 * k));
-        k += 1;
+    for k in 0..8usize {
+        if let Some(x) = held.get_mut(place + k) {
+            *x = part::wide(line, from + 2 * k);
+        }
     }
 }
 
@@ -71,60 +46,45 @@ fn lent(held: &[u32; HELD], line: &[i16]) -> [u32; ROOM] {
     let mut lent = [0u32; ROOM];
     let step = part::number(line, 10) as usize;
     let mut at = part::number(line, 9) as usize % HELD;
-    let mut k = 0;
-    while k < ROOM {
-        lent[k] = held[at];
+    for x in lent.iter_mut() {
+        *x = held[at];
         at = (at + step) % HELD;
-        k += 1;
     }
     lent
 }
 
-// The bytes of a kind, low byte first.
-fn bytes(kind: u32) -> [u8; 4] {
-    let mut bytes = [0u8; 4];
-    words::put_number(kind as u64, &mut bytes);
-    bytes
-}
-
-// The check sum of the first m kinds, four bytes each.
-fn check_sum(kinds: &[u32; ROOM], m: usize) -> u32 {
-    let n = words::lesser(m, ROOM);
+// The check sum of kinds, four bytes each, low byte first.
+fn check_sum(kinds: &[u32]) -> u32 {
     let mut sum = 0u32;
-    let mut i = 0;
-    while i < n {
-        sum = crc32::more(sum, &bytes(kinds[i]));
-        i += 1;
+    for kind in kinds {
+        sum = crc32::more(sum, &kind.to_le_bytes());
     }
     sum
 }
 
-fn answer(planned: Planned) -> Found {
+fn answer(planned: Result<u32, Refusal>) -> Found {
     match planned {
-        Planned::Refused(code) => Found {
-            code: code,
+        Err(r) => Found {
+            code: r.number(),
             lost: 0,
         },
-        Planned::Lost(lost) => Found {
-            code: 0,
-            lost: lost,
-        },
+        Ok(lost) => Found { code: 0, lost },
     }
 }
 
 // Compares what a call gave: its code, and the lost count and the check sum of the kinds, or that nothing was written where the code that is due is a refusal. Gives whether any differs.
-fn differs(line: &[i16], found: Found, sum: u32, written: bool, tally: &mut [u32; 64]) -> bool {
+fn differs(line: &[i16], found: Found, sum: u32, written: bool, tally: &mut Tally) -> bool {
     let due = part::number(line, 11) as u32;
     let other = found.code != due;
-    tally::count(tally, rows::CODE, other);
+    tally.count(Row::Code as usize, other);
     if due == 0 {
         let miscounted = found.lost != part::number(line, 12) as u32;
-        let unlike = sum != wide(line, 13);
-        tally::count(tally, rows::LOST, miscounted);
-        tally::count(tally, rows::KINDS, unlike);
+        let unlike = sum != part::wide(line, 13);
+        tally.count(Row::Lost as usize, miscounted);
+        tally.count(Row::Kinds as usize, unlike);
         return other || miscounted || unlike;
     }
-    tally::count(tally, rows::KEPT, written);
+    tally.count(Row::Kept as usize, written);
     other || written
 }
 
@@ -132,7 +92,7 @@ fn differs(line: &[i16], found: Found, sum: u32, written: bool, tally: &mut [u32
 fn length(line: &[i16], n: usize) -> usize
     ensures { result ≤ 8200 }
 {
-    words::lesser(part::number(line, n) as usize, ROOM)
+    ROOM.min(part::number(line, n) as usize)
 }
 
 // One call.
@@ -141,7 +101,7 @@ fn replay<R: Print>(
     numbers: &[u32; HELD],
     times: &[u32; HELD],
     line: &[i16],
-    tally: &mut [u32; 64],
+    tally: &mut Tally,
 ) {
     let lent_numbers = lent(numbers, line);
     let lent_times = lent(times, line);
@@ -150,45 +110,41 @@ fn replay<R: Print>(
     let m = length(line, 7);
     let k = length(line, 8);
     let planned = playout::playout(
-        wide(line, 0),
-        wide(line, 2),
-        wide(line, 4),
+        part::wide(line, 0),
+        part::wide(line, 2),
+        part::wide(line, 4),
         &lent_numbers[0..n],
         &lent_times[0..m],
         &mut kinds[0..k],
     );
-    let sum = check_sum(&kinds, k);
-    if differs(line, answer(planned), sum, !kept(&kinds), tally) {
-        stream::print_one(
-            rt,
-            b"seen as wrong: row ",
-            tally::compared(tally, rows::CODE),
-        );
+    let sum = check_sum(&kinds[..k]);
+    let written = kinds != [BEFORE; ROOM];
+    if differs(line, answer(planned), sum, written, tally) {
+        let row = tally.compared(Row::Code as usize);
+        let _ = println!(rt; "seen as wrong: row {row}");
     }
 }
 
-fn arrivals_line<R: Input>(rt: &R, numbers: &mut [u32; HELD], times: &mut [u32; HELD]) -> bool {
-    let mut text = [0u8; 133];
-    let mut line = [0i16; 33];
-    let whole = stream::read_words(rt, &mut text, &mut line);
+fn arrivals_line<R: Input>(
+    rt: &R,
+    numbers: &mut [u32; HELD],
+    times: &mut [u32; HELD],
+) -> Option<()> {
+    let line: [i16; 33] = stream::words(rt)?;
     put_all(numbers, &line, 1);
     put_all(times, &line, 17);
-    whole
+    Some(())
 }
 
 fn call_line<R: Input + Print>(
     rt: &R,
     numbers: &[u32; HELD],
     times: &[u32; HELD],
-    tally: &mut [u32; 64],
-) -> bool {
-    let mut text = [0u8; 61];
-    let mut line = [0i16; 15];
-    let whole = stream::read_words(rt, &mut text, &mut line);
-    if whole {
-        replay(rt, numbers, times, &line, tally);
-    }
-    whole
+    tally: &mut Tally,
+) -> Option<()> {
+    let line: [i16; 15] = stream::words(rt)?;
+    replay(rt, numbers, times, &line, tally);
+    Some(())
 }
 
 // The next line. False at the end.
@@ -196,12 +152,12 @@ fn line<R: Input + Print>(
     rt: &R,
     numbers: &mut [u32; HELD],
     times: &mut [u32; HELD],
-    tally: &mut [u32; 64],
-) -> bool {
-    match stream::letter(rt) {
+    tally: &mut Tally,
+) -> Option<()> {
+    match stream::byte(rt)? {
         b'A' => arrivals_line(rt, numbers, times),
         b'P' => call_line(rt, numbers, times, tally),
-        _ => false,
+        _ => None,
     }
 }
 
@@ -209,11 +165,7 @@ fn line<R: Input + Print>(
 fn main(rt: HostRuntime) {
     let mut numbers = [0u32; HELD];
     let mut times = [0u32; HELD];
-    let mut tally = [0u32; 64];
-    let mut most: u32 = 4294967295;
-    while 0 < most {
-        let more = line(&rt, &mut numbers, &mut times, &mut tally);
-        most = replay::rest(most, more);
-    }
+    let mut tally = Tally::new();
+    replay::repeat(|| line(&rt, &mut numbers, &mut times, &mut tally));
     rows::print_all(&rt, &tally);
 }

@@ -1,19 +1,25 @@
 // The rows of the tally: what each counts, and how they are printed.
-use replay::{stream, tally};
+use replay::stream;
+use replay::tally::Tally;
 
-pub const CODE: usize = 0;
+#[derive(Clone, Copy)]
+pub enum Row {
+    Code,
+    // Of calls that are not refused.
+    Lost,
+    Kinds,
+    // Of those that are.
+    Kept,
+}
 
-// Of calls that are not refused.
-pub const LOST: usize = 1;
-
-pub const KINDS: usize = 2;
-
-// Of those that are.
-pub const KEPT: usize = 3;
-
-pub(crate) fn print_all<R: Print>(rt: &R, tally: &[u32; 64]) {
-    stream::print_row(rt, b"playout::playout, code", tally, CODE);
-    stream::print_row(rt, b"lost", tally, LOST);
-    stream::print_row(rt, b"kinds, check sum", tally, KINDS);
-    stream::print_row(rt, b"refused calls, nothing written", tally, KEPT);
+pub(crate) fn print_all<R: Print>(rt: &R, tally: &Tally) {
+    stream::print_row(rt, "playout::playout, code", tally, Row::Code as usize);
+    stream::print_row(rt, "lost", tally, Row::Lost as usize);
+    stream::print_row(rt, "kinds, check sum", tally, Row::Kinds as usize);
+    stream::print_row(
+        rt,
+        "refused calls, nothing written",
+        tally,
+        Row::Kept as usize,
+    );
 }

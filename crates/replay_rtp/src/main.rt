@@ -8,7 +8,9 @@ ghost use Rattle.std.specs.Prelude.{◌≤◌};
 
 mod rows;
 
-use replay::{part, stream, tally};
+use replay::tally::Tally;
+use replay::{part, stream};
+use rows::Row;
 
 // Indexes that no payload has. Ten times the index leaves 64 bits from the fourth on, and is the place of a frame again in the fifth and the sixth.
 const HIGH: [usize; 9] = [
@@ -25,9 +27,7 @@ const HIGH: [usize; 9] = [
 
 // The check sum behind `sum` of a number in four bytes, low byte first.
 fn number(sum: u32, n: u64) -> u32 {
-    let mut bytes = [0u8; 4];
-    words::put_number(n, &mut bytes);
-    crc32::more(sum, &bytes)
+    crc32::more(sum, &n.to_le_bytes()[..4])
 }
 
 // That of a frame: kind, place and length, and its bytes.
@@ -38,57 +38,51 @@ fn record(sum: u32, found: rtp::FramePart, bytes: &[u8]) -> u32 {
 }
 
 // The check sum of all `n` frames. Compares their codes with that of the payload.
-fn all(line: &[i16], payload: &[u8], n: usize, tally: &mut [u32; 64]) -> u32 {
+fn all(line: &[i16], payload: &[u8], n: usize, tally: &mut Tally) -> u32 {
     let due = part::number(line, 2) as u32;
     let mut sum = 0u32;
-    let mut k = 0;
-    while k < n {
+    for k in 0..n {
         let found = rtp::find(payload, k);
-        tally::count(tally, rows::FRAME_CODE, found.code != due);
+        tally.count(Row::FrameCode as usize, found.code != due);
         sum = record(sum, found, rtp::part(payload, k));
-        k += 1;
     }
     sum
 }
 
 // Compares the last of `n` frames; where there is none, what the index 0 is answered.
-fn last(line: &[i16], payload: &[u8], n: usize, tally: &mut [u32; 64]) {
-    let k = if 0 < n { n - 1 } else { 0 };
+fn last(line: &[i16], payload: &[u8], n: usize, tally: &mut Tally) {
+    let k = n.saturating_sub(1);
     let found = rtp::find(payload, k);
-    tally::count(
-        tally,
-        rows::LAST,
+    tally.count(
+        Row::Last as usize,
         part::number(line, 4) as u32 != found.kind,
     );
-    tally::count(
-        tally,
-        rows::LAST,
+    tally.count(
+        Row::Last as usize,
         part::number(line, 5) as usize != found.start,
     );
-    tally::count(
-        tally,
-        rows::LAST,
+    tally.count(
+        Row::Last as usize,
         part::number(line, 6) as usize != found.length,
     );
 }
 
 // Compares what an index is answered that is too high.
-fn too_high(line: &[i16], payload: &[u8], index: usize, tally: &mut [u32; 64]) {
+fn too_high(line: &[i16], payload: &[u8], index: usize, tally: &mut Tally) {
     let found = rtp::find(payload, index);
     let due = part::number(line, 10) as usize;
-    tally::count(
-        tally,
-        rows::REFUSAL,
+    tally.count(
+        Row::Refusal as usize,
         part::number(line, 9) as u32 != found.code,
     );
-    tally::count(tally, rows::BESIDE, due != found.kind as usize);
-    tally::count(tally, rows::BESIDE, due != found.start);
-    tally::count(tally, rows::BESIDE, due != found.length);
-    tally::count(tally, rows::BESIDE, due != rtp::part(payload, index).len());
+    tally.count(Row::Beside as usize, due != found.kind as usize);
+    tally.count(Row::Beside as usize, due != found.start);
+    tally.count(Row::Beside as usize, due != found.length);
+    tally.count(Row::Beside as usize, due != rtp::part(payload, index).len());
 }
 
 // The number of frames as an index, the next, and another.
-fn next(line: &[i16], payload: &[u8], n: usize, tally: &mut [u32; 64])
+fn next(line: &[i16], payload: &[u8], n: usize, tally: &mut Tally)
     requires { n ≤ 65535 }
 {
     too_high(line, payload, n, tally);
@@ -97,74 +91,59 @@ fn next(line: &[i16], payload: &[u8], n: usize, tally: &mut [u32; 64])
 }
 
 // The indexes that no payload has.
-fn high(line: &[i16], payload: &[u8], tally: &mut [u32; 64]) {
-    let mut k = 0;
-    while k < 9 {
-        too_high(line, payload, HIGH[k], tally);
-        k += 1;
+fn high(line: &[i16], payload: &[u8], tally: &mut Tally) {
+    for index in HIGH {
+        too_high(line, payload, index, tally);
     }
 }
 
 // One payload.
-fn replay(line: &[i16], payload: &[u8], tally: &mut [u32; 64]) {
+fn replay(line: &[i16], payload: &[u8], tally: &mut Tally) {
     let found = rtp::frames(payload);
-    let n = words::lesser(found.frames, 65535);
-    tally::count(tally, rows::PAYLOADS, false);
-    tally::count(
-        tally,
-        rows::CODE,
+    let n = found.frames.min(65535);
+    tally.count(Row::Payloads as usize, false);
+    tally.count(
+        Row::Code as usize,
         part::number(line, 2) as u32 != found.code,
     );
-    tally::count(
-        tally,
-        rows::NUMBER,
+    tally.count(
+        Row::Number as usize,
         part::number(line, 3) as usize != found.frames,
     );
     last(line, payload, n, tally);
     let sum = all(line, payload, n, tally);
-    let due = 65536 * (part::number(line, 7) as u32) + part::number(line, 8) as u32;
-    tally::count(tally, rows::ALL, due != sum);
+    tally.count(Row::All as usize, part::wide(line, 7) != sum);
     next(line, payload, n, tally);
     high(line, payload, tally);
 }
 
-fn bytes_line<R: Input>(rt: &R, bytes: &mut [u8; 4096]) -> bool {
-    let mut text = [0u8; 8193];
-    let mut held = [0i16; 2048];
-    let whole = stream::read_words(rt, &mut text, &mut held);
+fn bytes_line<R: Input>(rt: &R, bytes: &mut [u8; 4096]) -> Option<()> {
+    let held: [i16; 2048] = stream::words(rt)?;
     words::to_bytes(&held, bytes);
-    whole
+    Some(())
 }
 
-fn payload_line<R: Input>(rt: &R, bytes: &[u8], tally: &mut [u32; 64]) -> bool {
-    let mut text = [0u8; 45];
-    let mut line = [0i16; 11];
-    if stream::read_words(rt, &mut text, &mut line) {
-        let from = words::lesser(part::number(&line, 0) as usize, bytes.len());
-        let to = from + words::lesser(part::number(&line, 1) as usize, bytes.len() - from);
-        replay(&line, &bytes[from..to], tally);
-        return true;
-    }
-    false
+fn payload_line<R: Input>(rt: &R, bytes: &[u8], tally: &mut Tally) -> Option<()> {
+    let line: [i16; 11] = stream::words(rt)?;
+    let from = bytes.len().min(part::number(&line, 0) as usize);
+    let to = bytes.len().min(from + part::number(&line, 1) as usize);
+    replay(&line, &bytes[from..to], tally);
+    Some(())
 }
 
 // The next line. False at the end.
-fn line<R: Input>(rt: &R, bytes: &mut [u8; 4096], tally: &mut [u32; 64]) -> bool {
-    match stream::letter(rt) {
+fn line<R: Input>(rt: &R, bytes: &mut [u8; 4096], tally: &mut Tally) -> Option<()> {
+    match stream::byte(rt)? {
         b'B' => bytes_line(rt, bytes),
         b'P' => payload_line(rt, bytes, tally),
-        _ => false,
+        _ => None,
     }
 }
 
 // All lines, up to 2^32 - 1.
 fn main(rt: HostRuntime) {
     let mut bytes = [0u8; 4096];
-    let mut tally = [0u32; 64];
-    let mut most: u32 = 4294967295;
-    while 0 < most {
-        let more = line(&rt, &mut bytes, &mut tally);
-        most = replay::rest(most, more);
-    }
+    let mut tally = Tally::new();
+    replay::repeat(|| line(&rt, &mut bytes, &mut tally));
     rows::print_all(&rt, &tally);
 }

@@ -1,32 +1,40 @@
 // The rows of the tally: what each counts, and how they are printed.
-use replay::{stream, tally};
+use replay::stream;
+use replay::tally::Tally;
 
-pub const PAYLOADS: usize = 0;
+#[derive(Clone, Copy)]
+pub enum Row {
+    Payloads,
+    // Of a payload, its code and the number of its frames.
+    Code,
+    Number,
+    // Of its frames, the code of each, the last one, and the check sum of all.
+    FrameCode,
+    Last,
+    All,
+    // Of an index that is too high, its code, and what comes beside it.
+    Refusal,
+    Beside,
+}
 
-// Of a payload, its code and the number of its frames.
-pub const CODE: usize = 1;
-
-pub const NUMBER: usize = 2;
-
-// Of its frames, the code of each, the last one, and the check sum of all.
-pub const FRAME_CODE: usize = 3;
-
-pub const LAST: usize = 4;
-
-pub const ALL: usize = 5;
-
-// Of an index that is too high, its code, and what comes beside it.
-pub const REFUSAL: usize = 6;
-
-pub const BESIDE: usize = 7;
-
-pub(crate) fn print_all<R: Print>(rt: &R, tally: &[u32; 64]) {
-    stream::print_one(rt, b"payloads ", tally::compared(tally, PAYLOADS));
-    stream::print_row(rt, b"rtp::frames, code", tally, CODE);
-    stream::print_row(rt, b"rtp::frames, number", tally, NUMBER);
-    stream::print_row(rt, b"rtp::find, code", tally, FRAME_CODE);
-    stream::print_row(rt, b"rtp::find, last frame", tally, LAST);
-    stream::print_row(rt, b"rtp::find and rtp::part, all frames", tally, ALL);
-    stream::print_row(rt, b"index too high, code", tally, REFUSAL);
-    stream::print_row(rt, b"index too high, frame and part", tally, BESIDE);
+pub(crate) fn print_all<R: Print>(rt: &R, tally: &Tally) {
+    let payloads = tally.compared(Row::Payloads as usize);
+    let _ = println!(rt; "payloads {payloads}");
+    stream::print_row(rt, "rtp::frames, code", tally, Row::Code as usize);
+    stream::print_row(rt, "rtp::frames, number", tally, Row::Number as usize);
+    stream::print_row(rt, "rtp::find, code", tally, Row::FrameCode as usize);
+    stream::print_row(rt, "rtp::find, last frame", tally, Row::Last as usize);
+    stream::print_row(
+        rt,
+        "rtp::find and rtp::part, all frames",
+        tally,
+        Row::All as usize,
+    );
+    stream::print_row(rt, "index too high, code", tally, Row::Refusal as usize);
+    stream::print_row(
+        rt,
+        "index too high, frame and part",
+        tally,
+        Row::Beside as usize,
+    );
 }

@@ -2,9 +2,11 @@
 // number of the rule that is made of it.
 ghost use Rattle.std.specs.Prelude.{◌≤◌};
 
-use crate::rows;
-use count::{Counted, Counts};
-use replay::{part, tally};
+use crate::rows::Row;
+use count::Counts;
+use refusal::Refusal;
+use replay::part;
+use replay::tally::Tally;
 use rule::Rules;
 
 // What Count answered; the counters are 0 beside a refusal.
@@ -12,13 +14,6 @@ use rule::Rules;
 struct Found {
     code: u32,
     counts: [u32; 7],
-}
-
-// The number of 32 bits in words n and n + 1.
-pub(crate) fn wide(line: &[i16], n: usize) -> u32
-    requires { n ≤ 40 }
-{
-    65536 * (part::number(line, n) as u32) + part::number(line, n + 1) as u32
 }
 
 // The counters as the lists have them: frames, lost, rule 1 to 5.
@@ -46,13 +41,13 @@ fn of_list(c: [u32; 7]) -> Counts {
     }
 }
 
-fn answer(counted: Counted) -> Found {
+fn answer(counted: Result<Counts, Refusal>) -> Found {
     match counted {
-        Counted::Refused(code) => Found {
-            code: code,
+        Err(r) => Found {
+            code: r.number(),
             counts: [0u32; 7],
         },
-        Counted::Done(c) => Found {
+        Ok(c) => Found {
             code: 0,
             counts: listed(c),
         },
@@ -74,43 +69,39 @@ fn counters(line: &[i16], from: usize) -> [u32; 7]
     requires { from ≤ 20 }
 {
     let mut found = [0u32; 7];
-    let mut k = 0;
-    while k < 7 {
-        found[k] = wide(line, from + 2 * k);
-        k += 1;
+    for (k, n) in found.iter_mut().enumerate() {
+        *n = part::wide(line, from + 2 * k);
     }
     found
 }
 
 // Compares seven counters.
-pub(crate) fn compare(due: &[u32; 7], found: &[u32; 7], row: usize, tally: &mut [u32; 64]) {
-    let mut k = 0;
-    while k < 7 {
-        tally::count(tally, row, due[k] != found[k]);
-        k += 1;
+pub(crate) fn compare(due: &[u32; 7], found: &[u32; 7], row: Row, tally: &mut Tally) {
+    for (due, found) in due.iter().zip(found) {
+        tally.count(row as usize, *due != *found);
     }
 }
 
 // One call of Count.
-pub(crate) fn count(line: &[i16], tally: &mut [u32; 64]) {
+pub(crate) fn count(line: &[i16], tally: &mut Tally) {
     let rules = Rules {
         first: rule::of_number(part::number(line, 2) as u32),
         second: rule::of_number(part::number(line, 3) as u32),
     };
-    let found = answer(count::count(wide(line, 0), rules, of_list(counters(line, 5))));
+    let found = answer(count::count(part::wide(line, 0), rules, of_list(counters(line, 5))));
     let due = part::number(line, 4) as u32;
-    tally::count(tally, rows::COUNT_CODE, found.code != due);
+    tally.count(Row::CountCode as usize, found.code != due);
     if due == 0 {
         let counts = found.counts;
-        compare(&counters(line, 19), &counts, rows::COUNTED, tally);
+        compare(&counters(line, 19), &counts, Row::Counted, tally);
     }
 }
 
 // One number.
-pub(crate) fn number(line: &[i16], tally: &mut [u32; 64]) {
-    let n = wide(line, 0);
+pub(crate) fn number(line: &[i16], tally: &mut Tally) {
+    let n = part::wide(line, 0);
     let due = part::number(line, 2) == 1;
     let made = rule::number(rule::of_number(n));
-    tally::count(tally, rows::KNOWN, rule::known(n) != due);
-    tally::count(tally, rows::OF_NUMBER, made != part::number(line, 3) as u32);
+    tally.count(Row::Known as usize, rule::known(n) != due);
+    tally.count(Row::OfNumber as usize, made != part::number(line, 3) as u32);
 }

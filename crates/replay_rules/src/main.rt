@@ -8,113 +8,69 @@ mod counting;
 mod frames;
 mod rows;
 
-use replay::{stream, tally};
+use frames::Decoder;
+use replay::stream;
+use replay::tally::Tally;
+use rows::Row;
 
 // Tells a row of which something differs from what it was before: `before` values did.
-fn seen<R: Print>(rt: &R, before: u32, tally: &mut [u32; 64]) {
+fn seen<R: Print>(rt: &R, before: u32, tally: &mut Tally) {
     let differs = rows::differing(tally) != before;
-    tally::count(tally, rows::ROWS, differs);
+    tally.count(Row::Lines as usize, differs);
     if differs {
-        stream::print_one(
-            rt,
-            b"seen as wrong: row ",
-            tally::compared(tally, rows::ROWS),
-        );
+        let row = tally.compared(Row::Lines as usize);
+        let _ = println!(rt; "seen as wrong: row {row}");
     }
 }
 
-fn table_line<R: Input>(rt: &R, t: &mut [i16; 1880]) -> bool {
-    let mut text = [0u8; 7521];
-    stream::read_words(rt, &mut text, t)
-}
-
-fn start_line<R: Input>(
+// Has `compare` compare a line, and tells where something differs.
+fn compared<R: Print, F: FnOnce(&[i16], &mut Tally)>(
     rt: &R,
-    t: &[i16; 1880],
-    b: &mut [i16; 234],
-    carried: &mut [i16; 1],
-    counts: &mut [u32; 7],
-) -> bool {
-    let mut text = [0u8; 5];
-    let whole = stream::read_words(rt, &mut text, carried);
-    frames::start(t, b, carried[0], counts);
-    whole
+    line: &[i16],
+    tally: &mut Tally,
+    compare: F,
+)
+    requires { F.IsAlwaysCallable compare }
+{
+    let before = rows::differing(tally);
+    compare(line, tally);
+    seen(rt, before, tally);
 }
 
-fn frame_line<R: Input + Print>(
-    rt: &R,
-    t: &[i16; 1880],
-    b: &mut [i16; 234],
-    carried: &mut [i16; 1],
-    counts: &mut [u32; 7],
-    tally: &mut [u32; 64],
-) -> bool {
-    let mut text = [0u8; 113];
-    let mut line = [0i16; 28];
-    if stream::read_words(rt, &mut text, &mut line) {
-        let before = rows::differing(tally);
-        frames::frame(t, b, counts, &line, tally);
-        frames::scan(carried, &line, tally);
-        seen(rt, before, tally);
-        return true;
-    }
-    false
+fn frame(decoder: &mut Decoder, line: &[i16], tally: &mut Tally) {
+    decoder.frame(line, tally);
+    decoder.scan(line, tally);
 }
 
-fn count_line<R: Input + Print>(rt: &R, tally: &mut [u32; 64]) -> bool {
-    let mut text = [0u8; 133];
-    let mut line = [0i16; 33];
-    if stream::read_words(rt, &mut text, &mut line) {
-        let before = rows::differing(tally);
-        counting::count(&line, tally);
-        seen(rt, before, tally);
-        return true;
+// The next line. None at the end.
+fn line<R: Input + Print>(rt: &R, decoder: &mut Decoder, tally: &mut Tally) -> Option<()> {
+    match stream::byte(rt)? {
+        b'T' => stream::read_words(rt, &mut decoder.t)?,
+        b'N' => {
+            let [delay]: [i16; 1] = stream::words(rt)?;
+            decoder.start(delay);
+        }
+        b'F' => {
+            let line: [i16; 28] = stream::words(rt)?;
+            compared(rt, &line, tally, |line, tally| frame(decoder, line, tally));
+        }
+        b'C' => {
+            let line: [i16; 33] = stream::words(rt)?;
+            compared(rt, &line, tally, counting::count);
+        }
+        b'M' => {
+            let line: [i16; 4] = stream::words(rt)?;
+            compared(rt, &line, tally, counting::number);
+        }
+        _ => return None,
     }
-    false
-}
-
-fn number_line<R: Input + Print>(rt: &R, tally: &mut [u32; 64]) -> bool {
-    let mut text = [0u8; 17];
-    let mut line = [0i16; 4];
-    if stream::read_words(rt, &mut text, &mut line) {
-        let before = rows::differing(tally);
-        counting::number(&line, tally);
-        seen(rt, before, tally);
-        return true;
-    }
-    false
-}
-
-// The next line. False at the end.
-fn line<R: Input + Print>(
-    rt: &R,
-    t: &mut [i16; 1880],
-    b: &mut [i16; 234],
-    carried: &mut [i16; 1],
-    counts: &mut [u32; 7],
-    tally: &mut [u32; 64],
-) -> bool {
-    match stream::letter(rt) {
-        b'T' => table_line(rt, t),
-        b'N' => start_line(rt, t, b, carried, counts),
-        b'F' => frame_line(rt, t, b, carried, counts, tally),
-        b'C' => count_line(rt, tally),
-        b'M' => number_line(rt, tally),
-        _ => false,
-    }
+    Some(())
 }
 
 // All lines, up to 2^32 - 1.
 fn main(rt: HostRuntime) {
-    let mut t = [0i16; 1880];
-    let mut b = [0i16; 234];
-    let mut carried = [0i16; 1];
-    let mut counts = [0u32; 7];
-    let mut tally = [0u32; 64];
-    let mut most: u32 = 4294967295;
-    while 0 < most {
-        let more = line(&rt, &mut t, &mut b, &mut carried, &mut counts, &mut tally);
-        most = replay::rest(most, more);
-    }
+    let mut decoder = Decoder::new();
+    let mut tally = Tally::new();
+    replay::repeat(|| line(&rt, &mut decoder, &mut tally));
     rows::print_all(&rt, &tally);
 }

@@ -10,42 +10,36 @@ mod gains;
 mod rows;
 mod signal;
 mod spectrum;
-mod vectors;
 
 use bitstream::SpeechParams;
 use plc::Decision;
-use replay::{part, stream, tally};
+use replay::tally::Tally;
+use replay::{part, stream};
+use rows::Row;
 
-fn voice(p: SpeechParams, t: &[i16], s: &[i16], f: &[i16], tally: &mut [u32; 64]) {
+// Tables, state and line stay three parameters: each stage is lent those alone that it reads.
+fn voice(p: SpeechParams, t: &[i16], s: &[i16], f: &[i16], tally: &mut Tally) {
     spectrum::voice(p, t, s, f, tally);
     code::voice(p, s, f, tally);
     gains::voice(p, t, s, f, tally);
 }
 
-fn concealed(t: &[i16], s: &[i16], f: &[i16], tally: &mut [u32; 64]) {
+fn concealed(t: &[i16], s: &[i16], f: &[i16], tally: &mut Tally) {
     spectrum::concealed(t, s, f, tally);
     code::concealed(s, f, tally);
     gains::concealed(t, s, f, tally);
 }
 
-// Compares the fields of a frame, from word 11 of its line on.
-fn compare(f: &[i16], found: [u16; 15], tally: &mut [u32; 64]) {
-    let mut n = 0;
-    while n < 15 {
-        tally::number(tally, rows::UNPACK, f, 11 + n, found[n]);
-        n += 1;
-    }
-}
-
-// The fields of a voice frame.
-fn fields(payload: [u8; 10], f: &[i16], tally: &mut [u32; 64]) {
+// The fields of a voice frame, which stand from word 11 of its line on.
+fn fields(payload: [u8; 10], f: &[i16], tally: &mut Tally) {
     let mut numbers = [0u16; 15];
-    let code = bitstream::fields(&payload, &mut numbers);
-    compare(f, numbers, tally);
+    let _ = bitstream::fields(&payload, &mut numbers);
+    let found = numbers.map(|x| x.cast_signed());
+    tally.words(Row::Unpack as usize, f, 11, &found);
 }
 
 // The stages that depend on the kind of the frame.
-fn by_kind(t: &[i16], s: &[i16], f: &[i16], tally: &mut [u32; 64]) {
+fn by_kind(t: &[i16], s: &[i16], f: &[i16], tally: &mut Tally) {
     let payload = part::payload(f);
     let decision = plc::decide(part::number(f, 0) as u32, &payload);
     match decision {
@@ -58,8 +52,8 @@ fn by_kind(t: &[i16], s: &[i16], f: &[i16], tally: &mut [u32; 64]) {
 }
 
 // Every stage of the frame with the words f, from the tables t and the state s.
-fn frame(t: &[i16], s: &[i16], f: &[i16], tally: &mut [u32; 64]) {
-    tally::count(tally, rows::FRAMES, false);
+fn frame(t: &[i16], s: &[i16], f: &[i16], tally: &mut Tally) {
+    tally.count(Row::Frames as usize, false);
     by_kind(t, s, f, tally);
     spectrum::both(t, s, f, tally);
     code::both(t, f, tally);
@@ -67,57 +61,47 @@ fn frame(t: &[i16], s: &[i16], f: &[i16], tally: &mut [u32; 64]) {
     signal::frame(t, s, f, tally);
 }
 
-fn table_line<R: Input>(rt: &R, t: &mut [i16; 1880], tally: &mut [u32; 64]) -> bool {
-    let mut text = [0u8; 7521];
-    tally::count(tally, rows::CASES, false);
-    stream::read_words(rt, &mut text, t)
+fn table_line<R: Input>(rt: &R, t: &mut [i16; 1880], tally: &mut Tally) -> Option<()> {
+    tally.count(Row::Cases as usize, false);
+    stream::read_words(rt, t)
 }
 
-fn state_line<R: Input>(rt: &R, s: &mut [i16; 234]) -> bool {
-    let mut text = [0u8; 937];
-    stream::read_words(rt, &mut text, s)
+fn state_line<R: Input>(rt: &R, s: &mut [i16; 234]) -> Option<()> {
+    stream::read_words(rt, s)
 }
 
 fn frame_line<R: Input>(
     rt: &R,
     t: &[i16; 1880],
     s: &mut [i16; 234],
-    tally: &mut [u32; 64],
-) -> bool {
-    let mut text = [0u8; 2957];
-    let mut f = [0i16; 739];
-    if stream::read_words(rt, &mut text, &mut f) {
-        frame(t, s, &f, tally);
-        part::fill(&f, 505, s);
-        return true;
-    }
-    false
+    tally: &mut Tally,
+) -> Option<()> {
+    let f: [i16; 739] = stream::words(rt)?;
+    frame(t, s, &f, tally);
+    part::fill(&f, 505, s);
+    Some(())
 }
 
 // The next line. False at the end.
-fn line<R: Input>(rt: &R, t: &mut [i16; 1880], s: &mut [i16; 234], tally: &mut [u32; 64]) -> bool {
-    let kind = stream::letter(rt);
-    if kind == b'T' {
-        return table_line(rt, t, tally);
+fn line<R: Input>(
+    rt: &R,
+    t: &mut [i16; 1880],
+    s: &mut [i16; 234],
+    tally: &mut Tally,
+) -> Option<()> {
+    match stream::byte(rt)? {
+        b'T' => table_line(rt, t, tally),
+        b'S' => state_line(rt, s),
+        b'F' => frame_line(rt, t, s, tally),
+        _ => None,
     }
-    if kind == b'S' {
-        return state_line(rt, s);
-    }
-    if kind == b'F' {
-        return frame_line(rt, t, s, tally);
-    }
-    false
 }
 
 // All lines, up to 2^32 - 1.
 fn main(rt: HostRuntime) {
-    let mut tally = [0u32; 64];
+    let mut tally = Tally::new();
     let mut t = [0i16; 1880];
     let mut s = [0i16; 234];
-    let mut most: u32 = 4294967295;
-    while 0 < most {
-        let more = line(&rt, &mut t, &mut s, &mut tally);
-        most = replay::rest(most, more);
-    }
+    replay::repeat(|| line(&rt, &mut t, &mut s, &mut tally));
     rows::print(&rt, &tally);
 }

@@ -1,9 +1,10 @@
 -- The forms that a report prints, each ended by a line feed.
-use Rattle.std.specs.Prelude.{Bool, cond, List, ◌++◌, ℕ, eqb, ℤ, pos, nat_abs}
+use Rattle.std.specs.Prelude.{Bool, cond, List, ◌++◌, ℕ, ℤ, pos, nat_abs}
 use Rattle.std.specs.Int.Signed.{lt_z}
 use Rattle.text.specs.Text.{ascii}
 use Rattle.print.specs.Print.{figure}
-use Rattle.report.specs.declared.Told.{Told}
+use Rattle.compare_step.specs.declared.Class.{Class}
+use Rattle.compare_step.specs.declared.Class.TheVariants.{Concealed, Settling, NotClean, Known, Differs}
 use Rattle.report.specs.declared.Tally.{Tally}
 use Rattle.report.specs.declared.Stretch.{Stretch}
 use Rattle.report.specs.declared.First.{First}
@@ -21,16 +22,15 @@ unfoldable pub labelled : List ℕ → ℕ → List ℕ → List ℕ
 labelled label n close = figure label n ++ close
 
 -- the class of a frame and its numbers, behind the frame's number
-unfoldable pub class : Told → List ℕ
-class t =
-    cond (eqb t.class 0) (ascii " (concealed))\n")
-    (cond (eqb t.class 1) (labelled (ascii " (settling ") t.number (ascii "))\n"))
-    (cond (eqb t.class 2) (labelled (ascii " (not-clean ") t.number (ascii "))\n"))
-    (cond (eqb t.class 3) (ascii " (known))\n")
-    (figure (ascii " (differs (sample ") t.number ++ signed (ascii ") (rest ") t.rest ++ ascii ")))\n"))))
+unfoldable pub class : Class → List ℕ
+class Concealed = ascii " (concealed))\n"
+class (Settling n) = labelled (ascii " (settling ") n (ascii "))\n")
+class (NotClean n) = labelled (ascii " (not-clean ") n (ascii "))\n")
+class Known = ascii " (known))\n"
+class (Differs d) = figure (ascii " (differs (sample ") d.sample ++ signed (ascii ") (rest ") d.rest ++ ascii ")))\n"
 
-unfoldable pub frame : ℕ → Told → List ℕ
-frame n t = figure (ascii "(frame ") n ++ class t
+unfoldable pub frame : ℕ → Class → List ℕ
+frame n c = figure (ascii "(frame ") n ++ class c
 
 unfoldable pub stretch : Stretch → ℕ → List ℕ
 stretch s to = figure (ascii "(stretch (from ") s.from ++ figure (ascii ") (to ") to ++ labelled (ascii ") (differ ") s.differ (ascii "))\n")
@@ -43,7 +43,7 @@ total t =
 -- the first frame that differs
 unfoldable pub fault : First → List ℕ
 fault f =
-    figure (ascii "(line (frame ") f.frame ++ figure (ascii ") (sample ") f.told.number ++ signed (ascii ") (rest ") f.told.rest
+    figure (ascii "(line (frame ") f.frame ++ figure (ascii ") (sample ") f.at.sample ++ signed (ascii ") (rest ") f.at.rest
     ++ ascii ") (no decoder of these frames, whatever its past, makes these samples))\n"
 
 -- the last frame that both have, where the far samples end before the call, or the call before them

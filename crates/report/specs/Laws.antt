@@ -1,12 +1,54 @@
--- The size of a number by its magnitude. Assumes nothing.
-use Rattle.std.specs.Prelude.{◌≡◌, true, ◌+◌, ℤ, pos, negsuc, nat_abs}
-use Rattle.std.proofs.Common.{arith, add-one, ltb-true}
-use Rattle.std.specs.Int.Signed.{lt_z, mag}
+-- What the proofs of `report` use: the answers that an arm leaves over. Assumes nothing.
+use Rattle.std.specs.Prelude.{◌≡◌, refl, false, ℕ, Option, None, Some}
+use Rattle.count.specs.declared.Counts.{Counts}
+use Rattle.compare_step.specs.declared.Difference.{Difference}
+use Rattle.compare_step.specs.declared.Class.{Class}
+use Rattle.compare_step.specs.declared.Class.TheVariants.{Concealed, Settling, NotClean, Known, Differs}
+use Rattle.report.specs.declared.Tally.{Tally}
+use Rattle.report.specs.declared.Stretch.{Stretch}
+use Rattle.report.specs.declared.First.{First}
+use Rattle.report.specs.Report.{computed, add, reached, earliest}
 
--- below 0, y being z read back
-pub below : {y z : ℤ} → y ≡ z → lt_z y (pos 0) ≡ true → mag z + 1 ≡ nat_abs z
-below {y} {z} e h = by z (rw e at h)
-  where
-    by : (z : ℤ) → lt_z z (pos 0) ≡ true → mag z + 1 ≡ nat_abs z
-    by (pos n) h = absurd (omega (arith, ltb-true n 0 h))
-    by (negsuc n) h = add-one n
+-- samples were not computed
+module _ (c : Class) (k : c ≡ Known → ⊥) (d : (x : Difference) → c ≡ Differs x → ⊥) where
+  pub not_computed : false ≡ computed c
+  unfolding computed
+  not_computed = by c refl
+    where
+      by : (x : Class) → c ≡ x → false ≡ computed x
+      by Concealed e = refl
+      by (Settling n) e = refl
+      by (NotClean n) e = refl
+      by Known e = absurd (k e)
+      by (Differs x) e = absurd (d x e)
+
+  pub not_reached : (s : Option Stretch) (n : ℕ) → None ≡ reached s n c
+  unfolding reached
+  not_reached s n = by c refl
+    where
+      by : (x : Class) → c ≡ x → None ≡ reached s n x
+      by Concealed e = refl
+      by (Settling m) e = refl
+      by (NotClean m) e = refl
+      by Known e = absurd (k e)
+      by (Differs x) e = absurd (d x e)
+
+  pub not_added : ((n : ℕ) → c ≡ Settling n → ⊥) → ((n : ℕ) → c ≡ NotClean n → ⊥) → (t : Tally) (counts : Counts)
+      → ◌≡◌ {A = Tally} (record { counts = counts; settling = t.settling; unclean = t.unclean; known = t.known; differ = t.differ }) (add t counts c)
+  unfolding add
+  not_added f g t counts = by c refl
+    where
+      by : (x : Class) → c ≡ x → ◌≡◌ {A = Tally} (record { counts = counts; settling = t.settling; unclean = t.unclean; known = t.known; differ = t.differ }) (add t counts x)
+      by Concealed e = refl
+      by (Settling m) e = absurd (f m e)
+      by (NotClean m) e = absurd (g m e)
+      by Known e = absurd (k e)
+      by (Differs x) e = absurd (d x e)
+
+pub not_earlier : (c : Class) → ((x : Difference) → c ≡ Differs x → ⊥) → (n : ℕ) → None ≡ earliest None n c
+unfolding earliest
+not_earlier Concealed d n = refl
+not_earlier (Settling m) d n = refl
+not_earlier (NotClean m) d n = refl
+not_earlier Known d n = refl
+not_earlier (Differs x) d n = absurd (d x refl)

@@ -1,24 +1,15 @@
 // The forms that a report prints, each at the front of lent bytes: it answers the form's length, and the bytes behind it are as they were.
-ghost use Rattle.std.specs.Prelude.{◌≡◌, ◌+◌, ◌≤◌, nat_abs, length};
+ghost use Rattle.std.specs.Prelude.{◌≡◌, ◌+◌, ◌≤◌, length};
 ghost use Rattle.print.specs.Print.{over};
 ghost use Rattle.text.specs.Text.{Put};
 ghost use Rattle.report.specs.Forms.{signed, labelled, class, frame, stretch, total, fault, ends};
 
-use crate::{CONCEALED, First, KNOWN, SETTLING, Stretch, Tally, Told, UNCLEAN};
+use crate::{First, Stretch, Tally};
+use compare_step::Class;
 use print::{figure, put};
 
 // The bytes of the longest form.
 pub const ROOM: usize = 160;
-
-// A number without its sign.
-fn size(z: i32) -> u32
-    ensures { result ≡ nat_abs z }
-{
-    if z < 0 {
-        return (-1 - z) as u32 + 1;
-    }
-    z as u32
-}
 
 // A number with its sign, behind its label.
 fn signed(label: &[u8], z: i32, from: usize, out: &mut [u8]) -> usize
@@ -27,9 +18,9 @@ fn signed(label: &[u8], z: i32, from: usize, out: &mut [u8]) -> usize
 {
     let at = put(label, from, out);
     if z < 0 {
-        return figure(b"-", size(z), at, out);
+        return figure(b"-", z.unsigned_abs(), at, out);
     }
-    figure(b"", size(z), at, out)
+    figure(b"", z.unsigned_abs(), at, out)
 }
 
 // A number behind its label, and what closes it.
@@ -42,33 +33,29 @@ fn labelled(label: &[u8], n: u32, close: &[u8], from: usize, out: &mut [u8]) -> 
 }
 
 // The class of a frame and its numbers, behind the frame's number.
-fn class(t: Told, from: usize, out: &mut [u8]) -> usize
+fn class(c: Class, from: usize, out: &mut [u8]) -> usize
     requires { from + 60 ≤ length out.old }
-    ensures { (result ≤ from + 60) × Put (class t) from out.old result out.new }
+    ensures { (result ≤ from + 60) × Put (class c) from out.old result out.new }
 {
-    if t.class == CONCEALED {
-        return put(b" (concealed))\n", from, out);
+    match c {
+        Class::Concealed => put(b" (concealed))\n", from, out),
+        Class::Settling(n) => labelled(b" (settling ", n as u32, b"))\n", from, out),
+        Class::NotClean(n) => labelled(b" (not-clean ", n as u32, b"))\n", from, out),
+        Class::Known => put(b" (known))\n", from, out),
+        Class::Differs(d) => {
+            let a = figure(b" (differs (sample ", d.sample as u32, from, out);
+            let b = signed(b") (rest ", d.rest, a, out);
+            put(b")))\n", b, out)
+        }
     }
-    if t.class == SETTLING {
-        return labelled(b" (settling ", t.number, b"))\n", from, out);
-    }
-    if t.class == UNCLEAN {
-        return labelled(b" (not-clean ", t.number, b"))\n", from, out);
-    }
-    if t.class == KNOWN {
-        return put(b" (known))\n", from, out);
-    }
-    let a = figure(b" (differs (sample ", t.number, from, out);
-    let b = signed(b") (rest ", t.rest, a, out);
-    put(b")))\n", b, out)
 }
 
 // `(frame N (CLASS ..))`.
-pub fn frame(n: u32, t: Told, out: &mut [u8; ROOM]) -> usize
-    ensures { (result ≤ 160) × ((result ≡ length (frame n t)) × (out.new ≡ over (frame n t) out.old)) }
+pub fn frame(n: u32, c: Class, out: &mut [u8; ROOM]) -> usize
+    ensures { (result ≤ 160) × ((result ≡ length (frame n c)) × (out.new ≡ over (frame n c) out.old)) }
 {
     let a = figure(b"(frame ", n, 0, out);
-    class(t, a, out)
+    class(c, a, out)
 }
 
 // `(stretch (from A) (to B) (differ N))`.
@@ -97,10 +84,10 @@ pub fn total(t: Tally, out: &mut [u8; ROOM]) -> usize
 pub fn fault(f: First, out: &mut [u8; ROOM]) -> usize
     ensures { (result ≤ 160) × ((result ≡ length (fault f)) × (out.new ≡ over (fault f) out.old)) }
 {
-    let t = f.told;
+    let d = f.at;
     let a = figure(b"(line (frame ", f.frame, 0, out);
-    let b = figure(b") (sample ", t.number, a, out);
-    let c = signed(b") (rest ", t.rest, b, out);
+    let b = figure(b") (sample ", d.sample as u32, a, out);
+    let c = signed(b") (rest ", d.rest, b, out);
     put(
         b") (no decoder of these frames, whatever its past, makes these samples))\n",
         c,

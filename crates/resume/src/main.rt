@@ -2,22 +2,18 @@
 // job_files.
 #![tactic(auto)]
 
-use job::parts::{ALL, Frames};
+use job::parts::ALL;
 use options::Asked;
 
 const USAGE: [u8; 54] = *b"usage: resume [--tables FILE] CALL STATE OUT [FRAMES]\n";
 
-// The fourth argument: at most so many frames. Where there is none, more than a call can have, so that the end is always reached.
-fn frames(rt: &HostRuntime, a: Asked) -> Frames {
-    if a.fourth == 0 {
-        return Frames {
-            good: true,
-            most: ALL,
-        };
-    }
-    let mut text = [0u8; 64];
-    let n = files::arg(rt, a.fourth, &mut text).unwrap_or(0);
-    job::parts::wanted(&text[0..n])
+// The fourth argument: at most so many frames; none where it is no number. Where there is no argument, more than a call can have, so that the end is always reached.
+fn frames(rt: &HostRuntime, a: Asked) -> Option<u32> {
+    let Some(i) = a.fourth else {
+        return Some(ALL);
+    };
+    let mut room = [0u8; 64];
+    job::parts::wanted(files::arg(rt, i, &mut room).unwrap_or(b""))
 }
 
 fn run(rt: &HostRuntime, a: Asked, most: u32) {
@@ -25,22 +21,18 @@ fn run(rt: &HostRuntime, a: Asked, most: u32) {
     let mut call = [0u8; 4096];
     let mut state = [0u8; 4096];
     let mut out = [0u8; 4096];
-    let t = files::argument(rt, a.tables, b"tables.g729", &mut tables);
-    let c = files::argument(rt, a.first, b"", &mut call);
-    let s = files::argument(rt, a.second, b"", &mut state);
-    let o = files::argument(rt, a.third, b"", &mut out);
     job_files::resume(
         rt,
-        &tables[0..t],
-        &call[0..c],
-        &state[0..s],
-        &out[0..o],
+        files::argument(rt, a.tables, b"tables.g729", &mut tables),
+        files::argument(rt, a.first, b"", &mut call),
+        files::argument(rt, a.second, b"", &mut state),
+        files::argument(rt, a.third, b"", &mut out),
         most,
     );
 }
 
 fn main(rt: HostRuntime) {
-    if !files::standard_open(&rt) {
+    if files::standard_open(&rt).is_err() {
         return;
     }
     let usage = USAGE;
@@ -55,11 +47,10 @@ fn main(rt: HostRuntime) {
     if answered {
         return;
     }
-    let asked = frames(&rt, a);
-    if !asked.good {
+    let Some(most) = frames(&rt, a) else {
         files::say(&rt, b"resume", b"FRAMES is no decimal number");
         files::tell(&rt, &usage);
         return;
-    }
-    run(&rt, a, asked.most);
+    };
+    run(&rt, a, most);
 }

@@ -6,7 +6,7 @@
 ghost use Rattle.std.specs.Prelude.{◌≡◌, length};
 ghost use Rattle.rtp.specs.Rtp.{frames, find, part, place, Answer, frame};
 
-// 0 or the number of the refusal, and how many frames a payload has; 0 beside a refusal.
+// 0 or the number of the refusal, and how many frames a payload has; 0 beside a refusal. This and the next are returned to C, so that they have a code and are no Result.
 #[repr(C)]
 #[derive(Clone, Copy)]
 pub struct FrameCount {

@@ -9,13 +9,13 @@ use pitch::{Delay, Delays, PitchState};
 use plc::Decision;
 
 // A delay coded in thirds, coded whole, coded relative to the first subframe's, carried after bad parity, carried in concealment: rules 1 to 5 of change request 12.
-#[derive(Clone, Copy)]
+#[derive(Clone, Copy, PartialEq, Eq, Debug)]
 pub enum Rule {
-    Thirds,
-    Whole,
-    Relative,
-    BadParity,
-    Concealed,
+    Thirds = 1,
+    Whole = 2,
+    Relative = 3,
+    BadParity = 4,
+    Concealed = 5,
 }
 
 // Those of a frame's two subframes.
@@ -34,42 +34,32 @@ pub struct Report {
 }
 
 // The number of a rule.
+#[tactic(auto, unfolding(crate::specs::Rule::number))]
 pub fn number(r: Rule) -> u32
     ensures { result ≡ number r }
 {
-    match r {
-        Rule::Thirds => 1,
-        Rule::Whole => 2,
-        Rule::Relative => 3,
-        Rule::BadParity => 4,
-        Rule::Concealed => 5,
-    }
+    r as u32
 }
 
 // Whether a number is one of a rule.
 pub fn known(n: u32) -> bool
     ensures { result ≡ known n }
 {
-    (1 <= n) & (n <= 5)
+    (1..=5).contains(&n)
 }
 
 // The rule with this number; a number that is no rule's gives the last.
+#[tactic(auto, unfolding(crate::specs::Rule::of_number))]
 pub fn of_number(n: u32) -> Rule
     ensures { result ≡ of_number n }
 {
-    if n == 1 {
-        return Rule::Thirds;
+    match n {
+        1 => Rule::Thirds,
+        2 => Rule::Whole,
+        3 => Rule::Relative,
+        4 => Rule::BadParity,
+        _ => Rule::Concealed,
     }
-    if n == 2 {
-        return Rule::Whole;
-    }
-    if n == 3 {
-        return Rule::Relative;
-    }
-    if n == 4 {
-        return Rule::BadParity;
-    }
-    Rule::Concealed
 }
 
 // The rule of a received frame's first subframe: where the parity fails, P1 is not read.
@@ -86,17 +76,15 @@ fn first_rule(p1: u16, p0: u16) -> Rule
 }
 
 // Both rules of a frame, from what it is decoded as.
+#[tactic(auto, unfolding(crate::specs::Rule::rules))]
 pub fn rules_of(d: Decision) -> Rules
     ensures { result ≡ rules d }
 {
     match d {
-        Decision::Voice(f) => {
-            let first = first_rule(f.p1, f.p0);
-            Rules {
-                first,
-                second: Rule::Relative,
-            }
-        }
+        Decision::Voice(f) => Rules {
+            first: first_rule(f.p1, f.p0),
+            second: Rule::Relative,
+        },
         Decision::Concealment => Rules {
             first: Rule::Concealed,
             second: Rule::Concealed,
@@ -112,6 +100,7 @@ pub fn frame_rules(kind: u32, payload: &[u8]) -> Rules
 }
 
 // Both delays of a frame and the delay that it carries on, from the one carried into it.
+#[tactic(auto, unfolding(crate::specs::Rule::delays))]
 pub fn delays(d: Decision, s: PitchState) -> Delays
     ensures { result ≡ delays d s.old }
 {
@@ -125,10 +114,9 @@ pub fn delays(d: Decision, s: PitchState) -> Delays
 pub fn handed_up(d: Decision, first: Delay, second: Delay) -> Report
     ensures { result ≡ report d first second }
 {
-    let both = rules_of(d);
     Report {
         first,
         second,
-        rules: both,
+        rules: rules_of(d),
     }
 }

@@ -1,5 +1,5 @@
 -- The scan hands up what the frame call does and carries the same delay on (change request 12): for each call, and over every list of frames. Assumes nothing.
-use Rattle.std.specs.Prelude.{ℕ, ◌≡◌, refl, Bool, true, false, cond, List, [], ◌∷◌, eqb, ℤ, pos, length, replicate}
+use Rattle.std.specs.Prelude.{ℕ, ◌≡◌, refl, Result, Ok, Err, Bool, true, false, cond, List, [], ◌∷◌, eqb, ℤ, pos, length, replicate}
 use Rattle.std.proofs.Common.{ap, sym, ◌∙◌}
 use Rattle.std.specs.Float.Ieee.Bits.{is_true}
 use Rattle.std.proofs.lemmas.List.{length-replicate}
@@ -20,25 +20,16 @@ use Rattle.state.specs.State.{State, read_params, read, write, fresh_params, fre
 use Rattle.state.specs.Laws.{read_sized, read_write, fresh_sized, fresh_accepted, accepted_of_check, check_of_accepted, accepted_parts}
 use Rattle.parameters.specs.Parameters.{parameters}
 use Rattle.parameters.specs.Parts.{Parts}
-use Rattle.decoder.specs.declared.Framed.{Framed}
-use Rattle.decoder.specs.declared.Framed.TheVariants as Framed
 use Rattle.decoder.specs.Frame.{Frame, decode}
 use Rattle.decoder.specs.Call as Call
 use Rattle.decoder.specs.Laws.{frame_handed}
 use Rattle.accepted.specs.Lengths.{sized_after}
 use Rattle.accepted.specs.Accepted.{carried_delay, frame_accepted}
-use Rattle.frame_delays.specs.declared.Scanned.{Scanned}
-use Rattle.frame_delays.specs.declared.Scanned.TheVariants.{Refused, Done}
 use Rattle.frame_delays.specs.Delays.{refusal, answer, handed, left, frame_delays}
 
 -- the delay that a state block carries
 abbrev pub carried : List ℤ → ℤ
 carried b = at b 61
-
--- an answer of the frame call, as one of the scan
-abbrev pub as_scanned : Framed → Scanned
-as_scanned (Framed.Refused n) = Refused n
-as_scanned (Framed.Done r) = Done r
 
 -- ---- the delays are parameters that read neither spectrum nor gains
 
@@ -73,16 +64,16 @@ carried_write t d b =
 
 -- what both hand up, and the delay that they carry on
 done_same : (t : List ℤ) (d : Decision) (b : List ℤ)
-    → answer (Done (rule.report d (rule.delays d (carried b)).first (rule.delays d (carried b)).second)) (rule.delays d (carried b)).state.old
-    ≡ answer (Done (Call.report d (decode t d (read b)).decoded)) (parameters t d (read_params b)).params.pitch.old
+    → answer (Ok (rule.report d (rule.delays d (carried b)).first (rule.delays d (carried b)).second)) (rule.delays d (carried b)).state.old
+    ≡ answer (Ok (Call.report d (decode t d (read b)).decoded)) (parameters t d (read_params b)).params.pitch.old
 unfolding decode read read_params
 done_same t d b =
     let e = same_delays t d (read_params b) in
-    λ i. answer (Done (sym e.0 i)) (sym e.1 i)
+    λ i. answer (Ok (sym e.0 i)) (sym e.1 i)
 
 -- for tables and a state that are taken and room for 80 samples, whatever the kind and the payload: the same answer, refused or not, and the same carried delay
 pub same : (t b : List ℤ) (kind : ℕ) (payload : List ℕ) (out : List ℤ) → table_check t ≡ 0 → state_check b ≡ 0 → length out ≡ frame_length
-    → frame_delays (carried b) kind payload ≡ answer (as_scanned (Call.handed (Call.frame t b kind payload out))) (carried (Call.block (Call.frame t b kind payload out)))
+    → frame_delays (carried b) kind payload ≡ answer (Call.handed (Call.frame t b kind payload out)) (carried (Call.block (Call.frame t b kind payload out)))
 unfolding frame_delays refusal Call.frame Call.refusal Call.first_of
 same t b kind payload out ht hb ho =
     rw (ht, hb, ho, carried_range b hb) (by (eqb (Call.input_check kind payload frame_length) 0))
@@ -97,9 +88,9 @@ same t b kind payload out ht hb ho =
     f = decode t d (read b)
 
     by : (p : Bool)
-        → cond p (answer (Done (rule.report d (rule.delays d (carried b)).first (rule.delays d (carried b)).second)) (rule.delays d (carried b)).state.old) (answer (Refused n) (carried b))
-        ≡ (let a = cond p (Call.answer (Framed.Done (Call.report d f.decoded)) (write f.state) f.samples) (Call.answer (Framed.Refused n) b out) in
-        answer (as_scanned (Call.handed a)) (carried (Call.block a)))
+        → cond p (answer (Ok (rule.report d (rule.delays d (carried b)).first (rule.delays d (carried b)).second)) (rule.delays d (carried b)).state.old) (answer (Err n) (carried b))
+        ≡ (let a = cond p (Call.answer (Ok (Call.report d f.decoded)) (write f.state) f.samples) (Call.answer (Err n) b out) in
+        answer (Call.handed a) (carried (Call.block a)))
     by true = rw (carried_write t d b) (done_same t d b)
     by false = refl
 
@@ -107,9 +98,9 @@ same t b kind payload out ht hb ho =
 
 -- so that a line is counted with the rules that the frame call will hand up, and a refused count changes nothing (crate line_step)
 pub same_rules : (t b : List ℤ) (kind : ℕ) (payload : List ℕ) (out : List ℤ) (r : Report) → Call.number (Call.frame t b kind payload out) ≡ 0
-    → Call.handed (Call.frame t b kind payload out) ≡ Framed.Done r → r.rules ≡ rule.rules (decide kind payload)
+    → Call.handed (Call.frame t b kind payload out) ≡ Ok r → r.rules ≡ rule.rules (decide kind payload)
 same_rules t b kind payload out r e h =
-    let k : Framed.Done r ≡ Framed.Done (Call.report (decide kind payload) (parameters t (decide kind payload) (read_params b))) = sym h ∙ frame_handed t b kind payload out e in
+    let k : Ok r ≡ Ok (Call.report (decide kind payload) (parameters t (decide kind payload) (read_params b))) = sym h ∙ frame_handed t b kind payload out e in
     let q : r ≡ Call.report (decide kind payload) (parameters t (decide kind payload) (read_params b)) = cc in
     ap (λ (x : Report). x.rules) q
 
@@ -120,18 +111,18 @@ pub record Input : Type 0 where
   pub payload : List ℕ
 
 -- what the scan answers, each frame on the delay that the one before left
-unfoldable pub scanned : List Input → ℤ → List Scanned
+unfoldable pub scanned : List Input → ℤ → List (Result Report ℕ)
 scanned [] old = []
 scanned (x ∷ xs) old =
     let a = frame_delays old x.kind x.payload in
     handed a ∷ scanned xs (left a)
 
 -- what the frame call answers, each frame on the block that the one before left
-unfoldable pub called : List ℤ → List Input → List ℤ → List Scanned
+unfoldable pub called : List ℤ → List Input → List ℤ → List (Result Report ℕ)
 called t [] b = []
 called t (x ∷ xs) b =
     let a = Call.frame t b x.kind x.payload (replicate frame_length (pos 0)) in
-    as_scanned (Call.handed a) ∷ called t xs (Call.block a)
+    Call.handed a ∷ called t xs (Call.block a)
 
 -- from any state that is taken, refused frames among them
 pub all_same : (t : List ℤ) → table_check t ≡ 0 → (xs : List Input) (b : List ℤ) → state_check b ≡ 0 → called t xs b ≡ scanned xs (carried b)
@@ -140,7 +131,7 @@ all_same t ht [] b hb = refl
 all_same t ht (x ∷ xs) b hb =
     let a = Call.frame t b x.kind x.payload (replicate frame_length (pos 0)) in
     let e = same t b x.kind x.payload (replicate frame_length (pos 0)) ht hb (length-replicate frame_length (pos 0)) in
-    rw e (ap (as_scanned (Call.handed a) ∷◌) (all_same t ht xs (Call.block a) (frame_accepted t b x.kind x.payload (replicate frame_length (pos 0)) hb)))
+    rw e (ap (Call.handed a ∷◌) (all_same t ht xs (Call.block a) (frame_accepted t b x.kind x.payload (replicate frame_length (pos 0)) hb)))
 
 initial : (t : List ℤ) → (fresh t).params.pitch.old ≡ scalar t InitialPreviousPitchDelay
 unfolding fresh fresh_params
@@ -188,8 +179,8 @@ pub by_rule : (t b : List ℤ) (kind : ℕ) (payload : List ℕ) (out : List ℤ
     let old = carried b in
     let first = of_rule r.first (fields d any) (given r.first old n) in
     Call.handed (Call.frame t b kind payload out)
-    ≡ Framed.Done record { first = first; second = of_rule r.second (fields d any) (given r.second (carried_second d old) first.integer); rules = r }
+    ≡ Ok record { first = first; second = of_rule r.second (fields d any) (given r.second (carried_second d old) first.integer); rules = r }
 unfolding read_params
 by_rule t b kind payload out any n e =
     let d = decide kind payload in
-    frame_handed t b kind payload out e ∙ ap Framed.Done ((same_delays t d (read_params b)).0 ∙ by_rules d any (carried b) n)
+    frame_handed t b kind payload out e ∙ ap Ok ((same_delays t d (read_params b)).0 ∙ by_rules d any (carried b) n)

@@ -5,7 +5,7 @@ ghost use Rattle.std.specs.Prelude.{◌≡◌, ◌-◌, ◌≤◌, length};
 ghost use Rattle.source.specs.Source.{Inside, raw, used, cut};
 
 use files::Input;
-use wav::Found;
+use wav::{Fault, Found};
 
 // The bytes of a buffer, in which the header of a WAV file must be.
 pub const ROOM: usize = 65536;
@@ -46,46 +46,13 @@ pub fn raw(n: usize) -> Source
     }
 }
 
-// What a read gave: how many bytes; not good, with a message on standard error, where it failed.
-#[derive(Clone, Copy)]
-struct Got {
-    bytes: usize,
-    good: bool,
-}
-
-fn read(rt: &HostRuntime, from: &Input, name: &[u8], room: &mut [u8]) -> Got
-    ensures { result.bytes ≤ length room.new }
-{
-    match files::read(from, room) {
-        Ok(bytes) => Got { bytes, good: true },
-        Err(e) => {
-            files::fail(rt, name, e);
-            Got {
-                bytes: 0,
-                good: false,
-            }
-        }
-    }
-}
-
 // The end of what may be read behind the bytes held.
 fn limit(held: usize, room: usize, left: u64) -> usize
     requires { held ≤ room }
     ensures { (held ≤ result) × (result ≤ room) }
 {
     let free = room - held;
-    if (free as u64) < left {
-        return room;
-    }
-    held + left as usize
-}
-
-// What may be read behind so many bytes more.
-fn less(left: u64, bytes: usize) -> u64 {
-    if (bytes as u64) < left {
-        return left - bytes as u64;
-    }
-    0
+    held + left.min(free as u64) as usize
 }
 
 // One read: the bytes that are not used move to the front, and others come behind them.
@@ -94,13 +61,14 @@ pub fn fill(rt: &HostRuntime, from: &Input, name: &[u8], s: Source, input: &mut 
 {
     let held = call::keep(input, s.from, s.to);
     let end = limit(held, input.len(), s.left);
-    let got = read(rt, from, name, &mut input[held..end]);
+    let got = files::or_tell(rt, name, from.read(&mut input[held..end]));
+    let bytes = got.unwrap_or(0);
     Source {
         from: 0,
-        to: held + got.bytes,
-        ended: got.bytes == 0,
-        good: got.good,
-        left: less(s.left, got.bytes),
+        to: held + bytes,
+        ended: bytes == 0,
+        good: got.is_ok(),
+        left: s.left.saturating_sub(bytes as u64),
     }
 }
 
@@ -112,10 +80,7 @@ pub fn used(s: Source, bytes: usize) -> Source
 {
     Source {
         from: s.from + bytes,
-        to: s.to,
-        ended: s.ended,
-        good: s.good,
-        left: s.left,
+        ..s
     }
 }
 
@@ -157,28 +122,28 @@ fn samples(h: Found, n: usize) -> Source
 }
 
 // Why the samples of a WAV file can't be taken, in words; `wanted` says which can.
-fn why(rt: &HostRuntime, name: &[u8], code: u32, wanted: &[u8]) {
-    if code == wav::NO_WAVE {
+fn why(rt: &HostRuntime, name: &[u8], fault: Fault, wanted: &[u8]) {
+    if fault == Fault::NoWave {
         files::say(rt, name, b"begins with RIFF, but is no WAV file");
-    } else if code == wav::NO_DATA {
+    } else if fault == Fault::NoData {
         files::say(
             rt,
             name,
             b"no chunk `data` in the first 65,536 bytes of this WAV file, or behind more than 64 others",
         );
-    } else if code == wav::NO_FORMAT {
+    } else if fault == Fault::NoFormat {
         files::say(
             rt,
             name,
             b"no chunk `fmt ` before the samples of this WAV file",
         );
-    } else if code == wav::NOT_MONO {
+    } else if fault == Fault::NotMono {
         files::say(
             rt,
             name,
             b"a WAV file of more than one channel: give one channel alone",
         );
-    } else if code == wav::NOT_8000 {
+    } else if fault == Fault::Not8000 {
         files::say(
             rt,
             name,
@@ -203,16 +168,17 @@ pub fn wave(
 ) -> Source
     ensures { Inside result (length bytes.now) }
 {
-    let found = wav::look(bytes, tag, bits);
-    if found.code == 0 {
-        return samples(found, bytes.len());
-    }
-    why(rt, name, found.code, wanted);
-    Source {
-        from: 0,
-        to: 0,
-        ended: true,
-        good: false,
-        left: 0,
+    match wav::look(bytes, tag, bits) {
+        Ok(found) => samples(found, bytes.len()),
+        Err(fault) => {
+            why(rt, name, fault, wanted);
+            Source {
+                from: 0,
+                to: 0,
+                ended: true,
+                good: false,
+                left: 0,
+            }
+        }
     }
 }

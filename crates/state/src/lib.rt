@@ -2,7 +2,8 @@
 // Words 0 to 69 are the parameters, which the next frame's parameters depend on, words 70 to 233 the signal.
 #![tactic(auto)]
 
-ghost use Rattle.std.specs.Prelude.{◌≡◌, List, ◌++◌, cond, eqb, ℤ, pos, length, drop, replicate};
+ghost use Rattle.std.specs.Prelude.{◌≡◌, List, ◌++◌, ◌-◌, min, cond, eqb, ℤ, pos, length, drop, replicate};
+ghost use Rattle.refusal.specs.Refusal.{code};
 ghost use Rattle.block.specs.Block.{part};
 ghost use Rattle.block.specs.Laws.{Front};
 ghost use Rattle.block.specs.Places.{frame_length, past_length, past_place, tail_length, tail_place, state_length};
@@ -14,11 +15,12 @@ use block::places::{
 };
 use gain::GainState;
 use pitch::PitchState;
+use refusal::Refusal;
 
 // Words 0 to 69 (G.729 clauses 3.2.4, 3.2.5, 3.9.1 and 4.4).
 #[derive(Clone, Copy)]
 pub struct Params {
-    // The four past outputs of the LSF quantizer, Q13, newest first.
+    // The four past outputs of the LSF quantizer, Q13, newest first. Fields and not an array: `SameParams` and `Sized`, which theorems cite, name each.
     pub r0: [i16; 10],
     pub r1: [i16; 10],
     pub r2: [i16; 10],
@@ -41,57 +43,37 @@ pub struct Params {
 // ---- from a block to values
 
 // The parameters of a block, words 0 to 69.
+#[tactic(auto, unfolding(crate::specs::State::read_params))]
 pub fn read_params(b: &[i16]) -> Params
     ensures { result ≡ read_params b.now }
 {
-    let r0 = block::words10(b, 0);
-    let r1 = block::words10(b, 10);
-    let r2 = block::words10(b, 20);
-    let r3 = block::words10(b, 30);
-    let predictor = block::word(b, 40);
-    let omega = block::words10(b, 41);
-    let lsp = block::words10(b, 51);
-    let pitch = PitchState {
-        old: block::word(b, 61),
-    };
-    let seed = block::word(b, 62);
-    let mem = block::words4(b, 63);
-    let gain = GainState {
-        mem,
-        gp: block::word(b, 67),
-        gc: block::word(b, 68),
-    };
-    let beta = block::word(b, 69);
     Params {
-        r0,
-        r1,
-        r2,
-        r3,
-        predictor,
-        omega,
-        lsp,
-        pitch,
-        seed,
-        gain,
-        beta,
+        r0: block::words_at(b, 0),
+        r1: block::words_at(b, 10),
+        r2: block::words_at(b, 20),
+        r3: block::words_at(b, 30),
+        predictor: block::word(b, 40),
+        omega: block::words_at(b, 41),
+        lsp: block::words_at(b, 51),
+        pitch: PitchState {
+            old: block::word(b, 61),
+        },
+        seed: block::word(b, 62),
+        gain: GainState {
+            mem: block::words_at(b, 63),
+            gp: block::word(b, 67),
+            gc: block::word(b, 68),
+        },
+        beta: block::word(b, 69),
     }
 }
 
-// The excitation that a frame starts with: the past 154 words of the block, and room for 80.
-pub fn read_exc(b: &[i16]) -> [i16; EXC_LENGTH]
-    ensures { result ≡ part b.now past_place past_length ++ replicate frame_length (pos 0) }
+// A buffer that a frame starts with, of past excitation or of samples: the words from p on, and room for 80 more.
+pub fn opened<const N: usize>(b: &[i16], p: usize) -> [i16; N]
+    ensures { result ≡ part b.now p (N - frame_length) ++ replicate (min N frame_length) (pos 0) }
 {
-    let mut out = [0i16; EXC_LENGTH];
-    block::words(b, PAST_PLACE, &mut out[..PAST_LENGTH]);
-    out
-}
-
-// The samples that a frame starts with: the last ten, and room for 80.
-pub fn read_speech(b: &[i16]) -> [i16; SPEECH_LENGTH]
-    ensures { result ≡ part b.now tail_place tail_length ++ replicate frame_length (pos 0) }
-{
-    let mut out = [0i16; SPEECH_LENGTH];
-    block::words(b, TAIL_PLACE, &mut out[..TAIL_LENGTH]);
+    let mut out = [0i16; N];
+    block::words(b, p, &mut out[..N.saturating_sub(FRAME_LENGTH)]);
     out
 }
 
@@ -101,19 +83,13 @@ pub fn read_speech(b: &[i16]) -> [i16; SPEECH_LENGTH]
 fn write_lsp_params(p: Params, out: &mut [i16; STATE_LENGTH])
     ensures { length out.old ≡ state_length → Front state_length out.new 61 (lsp_params p) }
 {
-    let r0 = p.r0;
-    block::put(out, 0, &r0);
-    let r1 = p.r1;
-    block::put(out, 10, &r1);
-    let r2 = p.r2;
-    block::put(out, 20, &r2);
-    let r3 = p.r3;
-    block::put(out, 30, &r3);
+    block::put(out, 0, &p.r0);
+    block::put(out, 10, &p.r1);
+    block::put(out, 20, &p.r2);
+    block::put(out, 30, &p.r3);
     block::put_word(out, 40, p.predictor);
-    let omega = p.omega;
-    block::put(out, 41, &omega);
-    let lsp = p.lsp;
-    block::put(out, 51, &lsp);
+    block::put(out, 41, &p.omega);
+    block::put(out, 51, &p.lsp);
 }
 
 // Words 61 to 69 behind them.
@@ -122,8 +98,7 @@ fn write_excitation_params(p: Params, out: &mut [i16; STATE_LENGTH])
 {
     block::put_word(out, 61, p.pitch.old);
     block::put_word(out, 62, p.seed);
-    let mem = p.gain.mem;
-    block::put(out, 63, &mem);
+    block::put(out, 63, &p.gain.mem);
     block::put_word(out, 67, p.gain.gp);
     block::put_word(out, 68, p.gain.gc);
     block::put_word(out, 69, p.beta);
@@ -140,10 +115,8 @@ pub fn write_block(
     let mut out = [0i16; STATE_LENGTH];
     write_lsp_params(p, &mut out);
     write_excitation_params(p, &mut out);
-    let past = &exc[..];
-    block::put(&mut out, PAST_PLACE, &past[FRAME_LENGTH..]);
-    let tail = &speech[..];
-    block::put(&mut out, TAIL_PLACE, &tail[FRAME_LENGTH..]);
+    block::put(&mut out, PAST_PLACE, &exc[FRAME_LENGTH..]);
+    block::put(&mut out, TAIL_PLACE, &speech[FRAME_LENGTH..]);
     out
 }
 
@@ -157,44 +130,35 @@ pub fn copy_block(b: &mut [i16], v: [i16; STATE_LENGTH])
 // ---- refusals
 
 // Whether the predictor and the delay are in range.
+#[tactic(auto, unfolding(crate::specs::State::accepted, crate::specs::State::read_params, crate::specs::State::predictor_in_range))]
 pub fn accepted(b: &[i16]) -> bool
     ensures { result ≡ accepted (read_params b.now) }
 {
-    let p = block::word(b, 40);
-    if 0 <= p {
-        if p <= 1 {
-            return tables::delay_in_range(block::word(b, 61));
-        }
-    }
-    false
+    (0..=1).contains(&block::word(b, 40)) && tables::delay_in_range(block::word(b, 61))
 }
 
-// Whether a state block can be used: 0, or 3 for another length, or 4 for a predictor or a delay out of range.
-pub fn state_check(b: &[i16]) -> u32
-    ensures { result ≡ state_check b.now }
+// Whether a state block can be used: it has its length, and a predictor and a delay in range.
+#[tactic(auto, unfolding(crate::specs::State::state_check))]
+pub fn state_check(b: &[i16]) -> Result<(), Refusal>
+    ensures { code result ≡ state_check b.now }
 {
     if b.len() != STATE_LENGTH {
-        return 3;
+        return Err(Refusal::StateLength);
     }
-    if accepted(b) {
-        return 0;
+    if !accepted(b) {
+        return Err(Refusal::StateValues);
     }
-    4
+    Ok(())
 }
 
 // ---- the operation Fresh state
 
 // The parameters before the first frame (01; Table 9 of G.729 and clause 4.4.4).
+#[tactic(auto, unfolding(crate::specs::State::fresh_params))]
 pub fn fresh_params(t: &[i16]) -> Params
     ensures { result ≡ fresh_params t.now }
 {
     let row = tables::formula::lsp_quantizer_initial_memory();
-    let lsp = tables::initial_lsp(t);
-    let pitch = PitchState {
-        old: tables::scalars(t, tables::Scalar::InitialPreviousPitchDelay),
-    };
-    let mem = tables::formula::gain_predictor_initial_memory();
-    let gain = GainState { mem, gp: 0, gc: 0 };
     Params {
         r0: row,
         r1: row,
@@ -202,34 +166,37 @@ pub fn fresh_params(t: &[i16]) -> Params
         r3: row,
         predictor: 0,
         omega: row,
-        lsp,
-        pitch,
+        lsp: tables::initial_lsp(t),
+        pitch: PitchState {
+            old: tables::scalars(t, tables::Scalar::InitialPreviousPitchDelay),
+        },
         seed: tables::text::ERASURE_RANDOM_SEED_INITIAL,
-        gain,
+        gain: GainState {
+            mem: tables::formula::gain_predictor_initial_memory(),
+            gp: 0,
+            gc: 0,
+        },
         beta: tables::text::PITCH_SHARPENING_MIN,
     }
 }
 
 // The block before the first frame.
+#[tactic(auto, unfolding(crate::specs::State::write, crate::specs::State::fresh))]
 fn fresh_block(t: &[i16]) -> [i16; STATE_LENGTH]
     ensures { result ≡ write (fresh t.now) }
 {
-    let exc = [0i16; EXC_LENGTH];
-    let speech = [0i16; SPEECH_LENGTH];
-    write_block(fresh_params(t), &exc, &speech)
+    write_block(fresh_params(t), &[0; EXC_LENGTH], &[0; SPEECH_LENGTH])
 }
 
-// The operation Fresh state (01): 0 and the block written, or why it is refused, and the block as it was.
-pub fn fresh_state(t: &[i16], b: &mut [i16]) -> u32
-    ensures { Answer.answer result b.new ≡ fresh_state t.now b.old }
+// The operation Fresh state (01): the block written; or why it is refused, and the block as it was.
+#[tactic(auto, unfolding(crate::specs::State::fresh_state))]
+pub fn fresh_state(t: &[i16], b: &mut [i16]) -> Result<(), Refusal>
+    ensures { Answer.answer (code result) b.new ≡ fresh_state t.now b.old }
 {
-    let code = tables::table_check(t);
-    if code != 0 {
-        return code;
-    }
+    tables::table_check(t)?;
     if b.len() != STATE_LENGTH {
-        return 3;
+        return Err(Refusal::StateLength);
     }
     copy_block(b, fresh_block(t));
-    0
+    Ok(())
 }

@@ -44,8 +44,8 @@ pub fn excitation(exc: &mut [i16; EXC_LENGTH], second: bool, code: &[i16; 40], g
 pub fn divide_by_4(exc: &mut [i16])
     ensures { exc.new ≡ divide_by_4 exc.old }
 {
-    for n in 0..exc.len() {
-        exc[n] = basic_op::sar16(exc[n], 2);
+    for x in exc.iter_mut() {
+        *x = basic_op::sar16(*x, 2);
     }
 }
 

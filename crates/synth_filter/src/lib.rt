@@ -2,7 +2,7 @@
 // excitation (154 of the past, then 80) and its 90 words of speech (the last ten samples before it, then 80).
 #![tactic(auto)]
 
-ghost use Rattle.std.specs.Prelude.{◌≡◌, ◌-◌, ◌≤◌, ◌<◌, false, List, ℤ, nat_abs, ◌-ℤ◌, ◌*ℤ◌};
+ghost use Rattle.std.specs.Prelude.{◌≡◌, ◌-◌, ◌≤◌, ◌<◌, IfSome, false, List, ℤ, nat_abs, ◌-ℤ◌, ◌*ℤ◌};
 ghost use Rattle.std.specs.Int.Signed.{mag};
 ghost use Rattle.laws.specs.Lists.{at};
 ghost use Rattle.block.specs.Places.{speech_length};
@@ -12,7 +12,7 @@ ghost use Rattle.synth_filter.specs.Fast.{size, size_sum, both, pairs, next_sum,
 use block::places;
 use block::places::{EXC_LENGTH, SPEECH_LENGTH};
 
-// A sample, and whether an operation on the way to it saturated.
+// A sample, and whether an operation on the way to it saturated: such a sample stands too, so this is no Option.
 #[derive(Clone, Copy)]
 struct Sample {
     word: i16,
@@ -126,32 +126,24 @@ fn both_sums(
     l
 }
 
-// A whole sum rounded to a sample. Where it is out of range, the flag is set and the word says nothing.
-fn rounded(l: i64) -> Sample
-    ensures { result.overflow ≡ false → Rounded l result.word }
+// A whole sum rounded to a sample; none where it is out of range.
+fn rounded(l: i64) -> Option<i16>
+    ensures { IfSome result (λ w. Rounded l w) }
 {
     if (l < 134215680) & (l > -134217729) {
-        let word = basic_op::sar64(l + 2048, 12) as i16;
-        return Sample {
-            word,
-            overflow: false,
-        };
+        return Some(basic_op::sar64(l + 2048, 12) as i16);
     }
-    Sample {
-        word: 0,
-        overflow: true,
-    }
+    None
 }
 
-// Sample n, whether its sum is out of range, and the sum of sample n + 1 without its product with sample n.
+// Sample n, and the sum of sample n + 1 without its product with sample n.
 #[derive(Clone, Copy)]
 struct First {
     word: i16,
-    overflow: bool,
     sum: i64,
 }
 
-// The first of two samples, for coefficients so small that no operation on the way saturates if the sum ends in range. The newest past sample, which
+// The first of two samples, none where its sum is out of range, for coefficients so small that no operation on the way saturates if the sum ends in range. The newest past sample, which
 // both sums wait for, comes last, and not through memory.
 fn first_of_two(
     a: &[i16; 11],
@@ -161,33 +153,29 @@ fn first_of_two(
     newest: i16,
     y: &[i16; SPEECH_LENGTH],
     n: usize,
-) -> First
+) -> Option<First>
     requires b_value { b.now ≡ pairs a.now }
     requires a_bound { size_sum a.now 10 ≤ 61439 }
     requires newest_value { newest ≡ at y.now (n - 1) }
     requires n_le_speech_length { n ≤ speech_length }
     requires le_n { 10 ≤ n }
-    ensures sampled { result.overflow ≡ false → Sampled a.now x y.now n result.word }
-    ensures sum_value { result.sum ≡ next_sum a.now next y.now n }
-    ensures sum_bound { mag result.sum < 8589934592 }
+    ensures sampled { IfSome result (λ s. Sampled a.now x y.now n s.word) }
+    ensures sum_value { IfSome result (λ s. s.sum ≡ next_sum a.now next y.now n) }
+    ensures sum_bound { IfSome result (λ s. mag s.sum < 8589934592) }
     ensures past { Past y.now n 0 }
 {
     let sums = both_sums(a, b, x, next, y, n);
     let high = basic_op::sar64(sums + 2147483648, 32);
     let low = sums - high * 4294967296;
     let sum = high - product(a[2], newest);
-    let s = rounded(low - product(a[1], newest));
-    First {
-        word: s.word,
-        overflow: s.overflow,
-        sum,
-    }
+    let word = rounded(low - product(a[1], newest))?;
+    Some(First { word, sum })
 }
 
 // The second: its sum waits for the first alone.
-fn second_of_two(a: &[i16; 11], sum: i64, first: i16) -> Sample
+fn second_of_two(a: &[i16; 11], sum: i64, first: i16) -> Option<i16>
     requires { mag sum < 8589934592 }
-    ensures { result.overflow ≡ false → Rounded (sum -ℤ at a.now 1 *ℤ first) result.word }
+    ensures { IfSome result (λ w. Rounded (sum -ℤ at a.now 1 *ℤ first) w) }
 {
     rounded(sum - product(a[1], first))
 }
@@ -214,18 +202,13 @@ fn whole_samples(
         let n = i + i;
         let k = start + n;
         let m = from + n;
-        let s = first_of_two(a, &b, exc[m], exc[m + 1], newest, speech, k);
-        if s.overflow {
+        let Some(s) = first_of_two(a, &b, exc[m], exc[m + 1], newest, speech, k) else {
             return n;
-        }
-        let word = s.word;
-        let sum = s.sum;
-        speech[k] = word;
-        let t = second_of_two(a, sum, speech[k]);
-        if t.overflow {
+        };
+        speech[k] = s.word;
+        let Some(next) = second_of_two(a, s.sum, speech[k]) else {
             return n + 1;
-        }
-        let next = t.word;
+        };
         speech[k + 1] = next;
         newest = speech[k + 1];
     }
@@ -249,8 +232,7 @@ fn plain_samples(
     let mut saturated = false;
     for n in done..40 {
         let s = synth_sample(a, exc[from + n], speech, start + n);
-        let word = s.word;
-        speech[start + n] = word;
+        speech[start + n] = s.word;
         saturated = saturated | s.overflow;
     }
     saturated

@@ -1,3 +1,2 @@
--- A law that several proofs of `tables` cite, and the proof of specs/Rules.antt.
-pub mod Match
+-- The proof of specs/Rules.antt.
 pub mod Rules

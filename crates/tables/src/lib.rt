@@ -3,13 +3,16 @@
 #![tactic(auto)]
 
 ghost use Rattle.std.specs.Prelude.{◌≡◌};
+ghost use Rattle.refusal.specs.Refusal.{code};
 ghost use Rattle.tables.specs.Layout.{lsp_cb1, lsp_cb2, lsp_ma, lsp_ma_sum, lsp_ma_sum_inv, b30, gain_ga, gain_gb, map_ga, map_gb, initial_lsp, place, scalar, delay_in_range, table_check};
+
+use refusal::Refusal;
 
 pub mod formula;
 pub mod text;
 
 // The scalars of the block, in its order.
-#[derive(Drop)]
+#[derive(Clone, Copy, PartialEq, Eq, Debug)]
 pub enum Scalar {
     // Upper bound of the pitch-sharpening factor, Q14.
     PitchSharpeningMax,
@@ -45,14 +48,14 @@ pub enum Scalar {
 pub fn lsp_cb1(t: &[i16], i: u16) -> [i16; 10]
     ensures { result ≡ lsp_cb1 t.now i }
 {
-    block::words10(t, 10 * (i as usize))
+    block::words_at::<10>(t, 10 * (i as usize))
 }
 
 // Row i of the second LSF codebooks (clause 3.2.4).
 pub fn lsp_cb2(t: &[i16], i: u16) -> [i16; 10]
     ensures { result ≡ lsp_cb2 t.now i }
 {
-    block::words10(t, 1280 + 10 * (i as usize))
+    block::words_at::<10>(t, 1280 + 10 * (i as usize))
 }
 
 // The moving-average weights of predictor p (clause 3.2.4).
@@ -60,10 +63,10 @@ pub fn lsp_ma(t: &[i16], p: u16) -> [[i16; 10]; 4]
     ensures { result ≡ lsp_ma t.now p }
 {
     let n = 40 * (p as usize);
-    let a = block::words10(t, 1600 + n);
-    let b = block::words10(t, 1610 + n);
-    let c = block::words10(t, 1620 + n);
-    let d = block::words10(t, 1630 + n);
+    let a = block::words_at::<10>(t, 1600 + n);
+    let b = block::words_at::<10>(t, 1610 + n);
+    let c = block::words_at::<10>(t, 1620 + n);
+    let d = block::words_at::<10>(t, 1630 + n);
     [a, b, c, d]
 }
 
@@ -71,17 +74,18 @@ pub fn lsp_ma(t: &[i16], p: u16) -> [[i16; 10]; 4]
 pub fn lsp_ma_sum(t: &[i16], p: u16) -> [i16; 10]
     ensures { result ≡ lsp_ma_sum t.now p }
 {
-    block::words10(t, 1680 + 10 * (p as usize))
+    block::words_at::<10>(t, 1680 + 10 * (p as usize))
 }
 
 // Its inverse, for the memory of an erased frame (clause 4.4.1).
 pub fn lsp_ma_sum_inv(t: &[i16], p: u16) -> [i16; 10]
     ensures { result ≡ lsp_ma_sum_inv t.now p }
 {
-    block::words10(t, 1700 + 10 * (p as usize))
+    block::words_at::<10>(t, 1700 + 10 * (p as usize))
 }
 
 // The interpolation filter of the adaptive codebook (clause 3.7.1).
+#[tactic(auto, unfolding(crate::specs::Layout::b30))]
 pub fn b30(t: &[i16]) -> [i16; 31]
     ensures { result ≡ b30 t.now }
 {
@@ -122,32 +126,18 @@ pub fn map_gb(t: &[i16], i: u16) -> i16
 pub fn initial_lsp(t: &[i16]) -> [i16; 10]
     ensures { result ≡ initial_lsp t.now }
 {
-    block::words10(t, 1856)
+    block::words_at::<10>(t, 1856)
 }
 
 // The place of a scalar among the scalars.
 fn place(s: Scalar) -> usize
     ensures { result ≡ place s }
 {
-    match s {
-        Scalar::PitchSharpeningMax => 0,
-        Scalar::InitialPreviousPitchDelay => 1,
-        Scalar::FixedCodebookPulsePositive => 2,
-        Scalar::GainPredictionLogScale => 3,
-        Scalar::GainPredictionMeanEnergyMantissa => 4,
-        Scalar::GainPredictionMeanEnergyMultiplier => 5,
-        Scalar::GainPredictionDbToLog2 => 6,
-        Scalar::GainUpdateLog2ToDb => 7,
-        Scalar::ErasurePitchGainLimit => 8,
-        Scalar::ErasureFixedGainAttenuation => 9,
-        Scalar::LsfToLspFrequencyScale => 10,
-        Scalar::LsfStabilityLowLimit => 11,
-        Scalar::LsfStabilityHighLimit => 12,
-        Scalar::LsfStabilityMinDistance => 13,
-    }
+    s as usize
 }
 
 // A scalar of the block. (Not `scalar`: a function and an enum may not differ in case alone.)
+#[tactic(auto, unfolding(crate::specs::Layout::scalar))]
 pub fn scalars(t: &[i16], s: Scalar) -> i16
     ensures { result ≡ scalar t.now s }
 {
@@ -155,21 +145,23 @@ pub fn scalars(t: &[i16], s: Scalar) -> i16
 }
 
 // Whether a delay is one that the excitation holds the words for.
+#[tactic(auto, unfolding(crate::specs::Layout::delay_in_range))]
 pub fn delay_in_range(delay: i16) -> bool
     ensures { result ≡ delay_in_range delay }
 {
-    if 19 <= delay { delay <= 144 } else { false }
+    (19..=144).contains(&delay)
 }
 
-// Whether a block can be used: 0, or 1 for another length, or 2 for an initial delay out of range.
-pub fn table_check(t: &[i16]) -> u32
-    ensures { result ≡ table_check t.now }
+// Whether a block can be used: it has its length, and an initial delay in range.
+#[tactic(auto, unfolding(crate::specs::Layout::table_check))]
+pub fn table_check(t: &[i16]) -> Result<(), Refusal>
+    ensures { code result ≡ table_check t.now }
 {
     if t.len() != 1880 {
-        return 1;
+        return Err(Refusal::TableLength);
     }
-    if delay_in_range(scalars(t, Scalar::InitialPreviousPitchDelay)) {
-        return 0;
+    if !delay_in_range(scalars(t, Scalar::InitialPreviousPitchDelay)) {
+        return Err(Refusal::TableDelay);
     }
-    2
+    Ok(())
 }

@@ -1,9 +1,24 @@
--- Laws of a text that is written part by part. Assumes nothing.
-use Rattle.std.specs.Prelude.{◌≡◌, refl, List, [], ◌∷◌, ◌++◌, ℕ, ◌+◌, ◌-◌, ◌≤◌, ◌<◌, length, take, drop, set}
+-- Laws of a text that is written part by part, and of texts compared by `==` and `starts_with`. Assumes nothing.
+use Rattle.std.specs.Prelude.{◌≡◌, refl, Bool, List, [], ◌∷◌, ◌++◌, ℕ, ◌+◌, ◌-◌, ◌≤◌, ◌<◌, length, take, drop, set, nat_eq}
 use Rattle.std.proofs.Common.{sym, ◌∙◌, append_assoc, append-nil, arith, add-zero, add_assoc, length-append, length-take, length-drop, take-append-drop, drop_of_length-le, drop-drop, take_all}
 use Rattle.std.proofs.lemmas.List.Edits.{sets-eq}
 use Rattle.std.proofs.Math.Seq.{take-append_seam, drop-append-add, take-length}
+use Rattle.std.proofs.lemmas.Bool.Decides.{same_from_decides, Decides-eqb}
+use Rattle.std.proofs.lemmas.Slice.Eq.{slice_eq-Decides}
+use Rattle.std.specs.Bool.{Decides}
+use Rattle.std.specs.Cmp.Lexicographic.{pointwise}
+use Rattle.laws.specs.Bytes.{same, same_self, same_true}
 use Rattle.text.specs.Text.{written, Put}
+
+-- what `==` of two slices tells
+pub equal_same : (l m : List ℕ) (r : Bool) → r ≡ pointwise nat_eq l m → r ≡ same l m
+equal_same l m r e = same_from_decides r (same l m) (slice_eq-Decides Decides-eqb l m r e) (same_true l m, λ z. rw z (same_self m))
+
+-- and in the other order
+pub equal_same' : (l m : List ℕ) (r : Bool) → r ≡ pointwise nat_eq m l → r ≡ same l m
+equal_same' l m r e =
+    let d : Decides r (m ≡ l) = slice_eq-Decides Decides-eqb m l r e in
+    same_from_decides r (same l m) (λ z. sym (d.0 z), λ z. d.1 (sym z)) (same_true l m, λ z. rw z (same_self m))
 
 -- lent bytes keep their number
 pub kept : {s lent out : List ℕ} {from r : ℕ} → Put s from lent r out → length out ≡ length lent
@@ -29,6 +44,10 @@ then {p} {q} {lent} {y} {out} {from} {m} {r} a b =
       bytes = b.bytes ∙ rw (t, u) (simp append_assoc);
     }
 
+-- a part at the front of memory that was just lent
+pub begun : {s lent l out : List ℕ} {a r : ℕ} → (a ≡ 0) × (l ≡ lent) → Put s a l r out → Put s 0 lent r out
+begun {s} {lent} {l} {out} {a} {r} e p = rw (e.0, e.1) at p
+
 -- no part
 pub nothing : (lent : List ℕ) (from : ℕ) → from ≤ length lent → Put [] from lent from lent
 unfolding written
@@ -51,7 +70,7 @@ four lent from a b c d h =
     let p : Put (a ∷ b ∷ []) from lent (from + 2) (set (set lent from a) (from + 1) b) = two lent from (from + 1) (from + 2) a b refl refl (omega arith) in
     then p (two _ (from + 2) (from + 3) (from + 4) c d (omega arith) (omega arith) (omega (arith, kept p)))
 
--- a part copied to a place, as `bytes::copy` leaves the lent bytes from that place on
+-- a part copied to a place, as `octets::copy` leaves the lent bytes from that place on
 pub copied : (s lent v : List ℕ) (from r : ℕ) → from + length s ≤ length lent → r ≡ length s
     → v ≡ take (length s) s ++ drop (length s) (take (length lent - from) (drop from lent))
     → Put s from lent (from + r) (take from lent ++ (v ++ drop (length lent - from) (drop from lent)))

@@ -10,72 +10,44 @@ ghost use Rattle.text.specs.Text.{starts};
 pub fn digit(v: u16) -> u8
     ensures { result ≡ digit (v % 16) }
 {
-    let low = v % 16;
+    let low = (v % 16) as u8;
     if low < 10 {
-        48 + low as u8
+        b'0' + low
     } else {
-        87 + low as u8
+        b'a' + (low - 10)
     }
 }
 
 // Whether a byte is a digit, 0-9 or a-f.
+#[tactic(auto, using(std::proofs::lemmas::Bool::Decides::nat_tests), unfolding(laws::specs::Digits::is_digit))]
 pub fn is_digit(b: u8) -> bool
     ensures { result ≡ is_digit b }
 {
-    if b < 48 {
-        return false;
-    }
-    if b < 58 {
-        return true;
-    }
-    if b < 97 {
-        return false;
-    }
-    b < 103
+    matches!(b, b'0'..=b'9' | b'a'..=b'f')
 }
 
 // The value of a digit; 0 of any other byte.
+#[tactic(auto, using(std::proofs::lemmas::Bool::Decides::nat_tests), unfolding(laws::specs::Digits::value))]
 pub fn value(b: u8) -> u8
     ensures { (result ≡ value b) × (result < 16) }
 {
-    if b < 48 {
-        return 0;
+    match b {
+        b'0'..=b'9' => b - b'0',
+        b'a'..=b'f' => b - b'a' + 10,
+        _ => 0,
     }
-    if b < 58 {
-        return b - 48;
-    }
-    if b < 97 {
-        return 0;
-    }
-    if b < 103 {
-        return b - 87;
-    }
-    0
 }
 
-// Whether two texts are the same.
+// Whether two texts are the same: `==` by the name that contracts and theorems above use, as is `starts_with` below.
 pub fn same(a: &[u8], b: &[u8]) -> bool
     ensures { result ≡ same a.now b.now }
 {
-    if a.len() != b.len() {
-        return false;
-    }
-    let mut i = 0;
-    while i < b.len() {
-        if a[i] != b[i] {
-            return false;
-        }
-        i += 1;
-    }
-    true
+    a == b
 }
 
 // Whether a text begins with another.
 pub fn starts(text: &[u8], with: &[u8]) -> bool
     ensures { result ≡ starts with.now text.now }
 {
-    if text.len() < with.len() {
-        return false;
-    }
-    same(&text[0..with.len()], with)
+    text.starts_with(with)
 }

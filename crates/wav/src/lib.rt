@@ -2,12 +2,12 @@
 // bytes, of which `fmt ` tells the form of the samples and `data` has them. Where the samples of one are, and the header of a new one.
 #![tactic(auto)]
 
-ghost use Rattle.std.specs.Prelude.{◌≡◌, ◌+◌, ◌≤◌, length};
-ghost use Rattle.wav.specs.Wav.{field, behind, named, Inside, next, last, fault, wrong, samples, look, count, header};
+ghost use Rattle.std.specs.Prelude.{◌≡◌, ◌+◌, ◌≤◌, length, IfOk, IfSome};
+ghost use Rattle.wav.specs.Wav.{field, behind, named, Inside, next, last, fault, samples, look, count, header};
 
 use text::starts;
 
-// Format tags: linear samples, A-law, mu-law.
+// Format tags: linear samples, A-law, mu-law. Numbers and no enum: `look` and `header` take any tag of a WAV file.
 pub const PCM: u32 = 1;
 
 pub const A_LAW: u32 = 6;
@@ -19,37 +19,33 @@ pub const HEADER: usize = 58;
 
 pub const MOST: u32 = 4294967244;
 
-// Why the samples of a file can't be taken.
-pub const NO_WAVE: u32 = 1;
-
-pub const NO_DATA: u32 = 2;
-
-pub const NO_FORMAT: u32 = 3;
-
-pub const OTHER_FORMAT: u32 = 4;
-
-pub const NOT_MONO: u32 = 5;
-
-pub const NOT_8000: u32 = 6;
-
-pub const OTHER_BITS: u32 = 7;
+// Why the samples of a file can't be taken: it is no WAV file, has no samples, no format in front of them, another format than the one asked for, or more than one channel, or a rate other than 8,000 samples a second, or other bits a sample.
+#[derive(Clone, Copy, Debug, PartialEq, Eq)]
+pub enum Fault {
+    NoWave,
+    NoData,
+    NoFormat,
+    OtherFormat,
+    NotMono,
+    Not8000,
+    OtherBits,
+}
 
 // How many chunks are passed at most.
 const CHUNKS: u32 = 64;
 
-// What is found in a file: 0, the place of the first sample, and how many bytes the samples have; or why they can't be taken.
+// What is found in a file: the place of the first sample, and how many bytes the samples have.
 #[derive(Clone, Copy)]
 pub struct Found {
-    pub code: u32,
     pub from: usize,
     pub bytes: u64,
 }
 
-// Where a header is looked at: the place of a chunk, and that of the format, 0 before it was met.
+// Where a header is looked at: the place of a chunk, and that of the format, once it was met.
 #[derive(Clone, Copy)]
 pub struct Place {
     pub at: usize,
-    pub format: usize,
+    pub format: Option<usize>,
 }
 
 // The number of `n` bytes at a place, low byte first.
@@ -99,7 +95,7 @@ fn next(bytes: &[u8], p: Place) -> Place
     if named(bytes, at, b"fmt ") {
         return Place {
             at: to,
-            format: at + 8,
+            format: Some(at + 8),
         };
     }
     Place {
@@ -113,81 +109,67 @@ fn last(bytes: &[u8]) -> Place
     requires { 12 ≤ length bytes.now }
     ensures { (result ≡ last bytes.now) × Inside bytes.now result }
 {
-    let mut p = Place { at: 12, format: 0 };
-    let mut i = 0;
-    while i < CHUNKS {
+    let mut p = Place {
+        at: 12,
+        format: None,
+    };
+    for _ in 0..CHUNKS {
         p = next(bytes, p);
-        i += 1;
     }
     p
 }
 
-// 0, or why samples of the format at a place can't be taken, where this tag and so many bits a sample are asked for.
-fn fault(bytes: &[u8], at: usize, tag: u32, bits: u32) -> u32
-    requires { at ≤ length bytes.now }
-    ensures { result ≡ fault bytes.now at tag bits }
+// Whether samples of the format at a place can be taken, where this tag and so many bits a sample are asked for.
+fn check_format(bytes: &[u8], format: Option<usize>, tag: u32, bits: u32) -> Result<(), Fault>
+    requires { IfSome format (λ at. at ≤ length bytes.now) }
+    ensures { result ≡ fault bytes.now format tag bits }
 {
-    if at == 0 {
-        return NO_FORMAT;
-    }
+    let Some(at) = format else {
+        return Err(Fault::NoFormat);
+    };
     if bytes.len() - at < 16 {
-        return NO_FORMAT;
+        return Err(Fault::NoFormat);
     }
     if field(bytes, at, 2) != tag as u64 {
-        return OTHER_FORMAT;
+        return Err(Fault::OtherFormat);
     }
     if field(bytes, at + 2, 2) != 1 {
-        return NOT_MONO;
+        return Err(Fault::NotMono);
     }
     if field(bytes, at + 4, 4) != 8000 {
-        return NOT_8000;
+        return Err(Fault::Not8000);
     }
     if field(bytes, at + 14, 2) != bits as u64 {
-        return OTHER_BITS;
+        return Err(Fault::OtherBits);
     }
-    0
-}
-
-// The samples can't be taken.
-fn wrong(code: u32) -> Found
-    ensures { result ≡ wrong code }
-{
-    Found {
-        code,
-        from: 0,
-        bytes: 0,
-    }
+    Ok(())
 }
 
 // The samples of the chunk at a place.
-fn samples(bytes: &[u8], p: Place, tag: u32, bits: u32) -> Found
+fn samples(bytes: &[u8], p: Place, tag: u32, bits: u32) -> Result<Found, Fault>
     requires { Inside bytes.now p }
-    ensures { (result ≡ samples bytes.now p tag bits) × (result.from ≤ length bytes.now) }
+    ensures { (result ≡ samples bytes.now p tag bits) × IfOk result (λ h. h.from ≤ length bytes.now) }
 {
     let at = p.at;
     if !named(bytes, at, b"data") {
-        return wrong(NO_DATA);
+        return Err(Fault::NoData);
     }
-    let code = fault(bytes, p.format, tag, bits);
-    if code != 0 {
-        return wrong(code);
-    }
-    Found {
-        code: 0,
+    check_format(bytes, p.format, tag, bits)?;
+    Ok(Found {
         from: at + 8,
         bytes: field(bytes, at + 4, 4),
-    }
+    })
 }
 
 // Where the samples of a WAV file are, whose first bytes these are, `RIFF` in front, or why they can't be taken: they must have this format tag and so many bits each, be of one channel and 8,000 a second.
-pub fn look(bytes: &[u8], tag: u32, bits: u32) -> Found
-    ensures { (result ≡ look bytes.now tag bits) × (result.from ≤ length bytes.now) }
+pub fn look(bytes: &[u8], tag: u32, bits: u32) -> Result<Found, Fault>
+    ensures { (result ≡ look bytes.now tag bits) × IfOk result (λ h. h.from ≤ length bytes.now) }
 {
     if bytes.len() < 12 {
-        return wrong(NO_WAVE);
+        return Err(Fault::NoWave);
     }
     if !starts(&bytes[8..], b"WAVE") {
-        return wrong(NO_WAVE);
+        return Err(Fault::NoWave);
     }
     samples(bytes, last(bytes), tag, bits)
 }

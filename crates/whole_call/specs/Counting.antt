@@ -1,8 +1,7 @@
 -- What a line does to the progress of a call (01, Line and Count): a line that is taken is one line and one frame more, one that is refused leaves lines and counts as they were. Assumes nothing.
-use Rattle.std.specs.Prelude.{◌≡◌, refl, true, List, ℕ, ◌+◌, ◌≤◌, ◌<◌, ℤ}
+use Rattle.std.specs.Prelude.{◌≡◌, refl, true, List, ℕ, ◌+◌, ◌≤◌, ◌<◌, ℤ, Ok}
 use Rattle.std.proofs.Common.{◌∙◌, arith, lt-ltb}
 use Rattle.count.specs.declared.Counts.{Counts}
-use Rattle.count.specs.declared.Counted.TheVariants.{Done}
 use Rattle.count.specs.Count.{most, count, frames_are}
 use Rattle.count.specs.Laws.{frames_none, frames_more}
 use Rattle.decoder.specs.Call as Frame
@@ -16,7 +15,7 @@ use Rattle.call.specs.Call.{start}
 pub record More (p q : Progress) : Type 0 where
   pub kind : ℕ
   pub rules : Rules
-  pub frame : count kind rules p.counts ≡ Done q.counts
+  pub frame : count kind rules p.counts ≡ Ok q.counts
   pub line : q.lines ≡ one_more p.lines
 
 pub record Counting (p : Progress) (s : Step) : Type 0 where
@@ -27,7 +26,7 @@ counting_stop : (job : Job) (n : ℕ) → (n ≡ 0 → ⊥) → Counting job.pro
 unfolding stop
 counting_stop job n h = record { more = λ e. absurd (h e); as_was = λ e. refl }
 
-counting_done : (job : Job) (kind : ℕ) (r : Rules) (next : Counts) (a : Frame.Answer) → count kind r job.progress.counts ≡ Done next → Counting job.progress (done job next a)
+counting_done : (job : Job) (kind : ℕ) (r : Rules) (next : Counts) (a : Frame.Answer) → count kind r job.progress.counts ≡ Ok next → Counting job.progress (done job next a)
 unfolding done
 counting_done job kind r next a h = record { more = λ e. record { kind = kind; rules = r; frame = h; line = refl }; as_was = λ e. absurd (e refl) }
 

@@ -1,6 +1,6 @@
 -- The table of a call's delays has what the frame call hands up (change request 12): over every list of lines, with the refused one, from every state that is taken and from the fresh one. Assumes nothing.
 use Prim.Native.Nat.{ℕ}
-use Rattle.std.specs.Prelude.{◌≡◌, Bool, true, false, cond, eqb, ℤ, pos, replicate}
+use Rattle.std.specs.Prelude.{◌≡◌, Bool, true, false, cond, eqb, ℤ, pos, replicate, Result, Ok, Err}
 use Rattle.std.proofs.Math.Path.{refl}
 use Rattle.std.proofs.Common.{ap, ◌∙◌}
 use mathlib.Core.List.{List, [], ◌∷◌}
@@ -12,18 +12,13 @@ use Rattle.plc.specs.Kinds.{decide}
 use Rattle.rule.specs.Rule.{rules}
 use Rattle.state.specs.State.{State, read, read_params, write, fresh, fresh_params, state_check}
 use Rattle.state.specs.Laws.{read_write, fresh_sized, fresh_accepted, check_of_accepted}
-use Rattle.decoder.specs.declared.Framed.{Framed}
-use Rattle.decoder.specs.declared.Framed.TheVariants as Framed
 use Rattle.decoder.specs.Frame.{decode}
 use Rattle.decoder.specs.Call as Call
 use Rattle.accepted.specs.Accepted.{frame_accepted}
 use Rattle.frame_delays.specs.Delays as Scan
-use Rattle.same_delays.specs.Same.{carried, as_scanned, same}
-use Rattle.line.specs.declared.Read.TheVariants as Read
+use Rattle.same_delays.specs.Same.{carried, same}
 use Rattle.line.specs.Line as Line
 use Rattle.count.specs.declared.Counts.{Counts}
-use Rattle.count.specs.declared.Counted.{Counted}
-use Rattle.count.specs.declared.Counted.TheVariants as Count
 use Rattle.count.specs.Count.{count}
 use Rattle.line_step.specs.Step as LineStep
 use Rattle.line_step.specs.Step.{one_more}
@@ -42,7 +37,7 @@ module _ (t : List ℤ) (job : LineStep.Job) (ht : table_check t ≡ 0) (hb : st
 
   framed : (next : Counts) (kind : ℕ) (payload : List ℕ)
       → let a = called kind payload in
-      Alike (Step.scanned job.progress next (Scan.answer (as_scanned (Call.handed a)) (carried (Call.block a)))) (handed_row (one_more job.progress.lines) (Call.handed a))
+      Alike (Step.scanned job.progress next (Scan.answer (Call.handed a) (carried (Call.block a)))) (handed_row (one_more job.progress.lines) (Call.handed a))
       (LineStep.framed job next a)
   unfolding Call.frame Step.scanned Step.stop Step.done handed_row LineStep.framed LineStep.stop LineStep.done
   framed next kind payload = by (eqb n 0) refl (frame_accepted t job.block kind payload (replicate 80 (pos 0)) hb)
@@ -52,23 +47,23 @@ module _ (t : List ℤ) (job : LineStep.Job) (ht : table_check t ≡ 0) (hb : st
 
       by : (p : Bool) → eqb n 0 ≡ p
           → let f = decode t (decide kind payload) (read job.block) in
-          let a = cond p (Call.answer (Framed.Done (Call.report (decide kind payload) f.decoded)) (write f.state) f.samples) (Call.answer (Framed.Refused n) job.block (replicate 80 (pos 0))) in
+          let a = cond p (Call.answer (Ok (Call.report (decide kind payload) f.decoded)) (write f.state) f.samples) (Call.answer (Err n) job.block (replicate 80 (pos 0))) in
           state_check (Call.block a) ≡ 0
-          → Alike (Step.scanned job.progress next (Scan.answer (as_scanned (Call.handed a)) (carried (Call.block a)))) (handed_row (one_more job.progress.lines) (Call.handed a))
+          → Alike (Step.scanned job.progress next (Scan.answer (Call.handed a) (carried (Call.block a)))) (handed_row (one_more job.progress.lines) (Call.handed a))
           (LineStep.framed job next a)
       by true e h = (refl, (refl, h))
       by false e h = rw e (refl, (refl, h))
 
-  counted : (kind : ℕ) (payload : List ℕ) (c : Counted)
+  counted : (kind : ℕ) (payload : List ℕ) (c : Result Counts ℕ)
       → Alike (Step.counted (scan_job job) kind payload c) (counted_row t job kind payload c) (LineStep.counted t job kind payload c)
   unfolding Step.counted counted_row LineStep.counted
-  counted kind payload (Count.Refused code) = stopped code
-  counted kind payload (Count.Done next) = rw (same t job.block kind payload (replicate 80 (pos 0)) ht hb refl) (framed next kind payload)
+  counted kind payload (Err code) = stopped code
+  counted kind payload (Ok next) = rw (same t job.block kind payload (replicate 80 (pos 0)) ht hb refl) (framed next kind payload)
 
   taken : (a : Line.Answer) → Alike (Step.taken (scan_job job) a) (taken_row t job a) (LineStep.taken t job a)
   unfolding Step.taken taken_row LineStep.taken Step.frame_step frame_row LineStep.frame_step
-  taken (Line.answer (Read.Refused code) bytes) = stopped code
-  taken (Line.answer (Read.Frame kind) bytes) =
+  taken (Line.answer (Err code) bytes) = stopped code
+  taken (Line.answer (Ok kind) bytes) =
       let payload : List ℕ = take (payload_length kind) bytes in
       counted kind payload (count kind (rules (decide kind payload)) job.progress.counts)
 

@@ -1,22 +1,19 @@
 -- The table of a call's delays has what the frame call hands up (change request 12): over every list of lines, with the refused one, from every state that is taken and from the fresh one. Proved in proofs/Whole.antt. Assumes nothing.
 use Prim.Native.Nat.{ℕ}
-use Rattle.std.specs.Prelude.{◌≡◌, cond, eqb, ℤ, pos, replicate}
+use Rattle.std.specs.Prelude.{◌≡◌, cond, eqb, ℤ, pos, replicate, Result, Ok, Err}
 use mathlib.Core.List.{List, [], ◌∷◌, ◌++◌}
 use Rattle.std.proofs.Math.ListN.{take}
 use Rattle.kind.specs.Kind.{payload_length}
 use Rattle.plc.specs.Kinds.{decide}
 use Rattle.rule.specs.Rule.{rules}
 use Rattle.state.specs.State.{state_check}
-use Rattle.decoder.specs.declared.Framed.{Framed}
-use Rattle.decoder.specs.declared.Framed.TheVariants as Framed
 use Rattle.decoder.specs.Call as Call
 use Rattle.same_delays.specs.Same.{carried}
-use Rattle.line.specs.declared.Read.TheVariants as Read
 use Rattle.line.specs.Line as Line
-use Rattle.count.specs.declared.Counted.{Counted}
-use Rattle.count.specs.declared.Counted.TheVariants as Count
+use Rattle.count.specs.declared.Counts.{Counts}
 use Rattle.count.specs.Count.{count}
 use Rattle.line_step.specs.Step as LineStep
+use Rattle.rule.specs.declared.Report.{Report}
 use Rattle.line_step.specs.Step.{one_more}
 use Rattle.delay_step.specs.Step as Step
 use Rattle.delay_step.specs.Step.{kept, report_row, delay_step}
@@ -24,20 +21,20 @@ use Rattle.delay_step.specs.Step.{kept, report_row, delay_step}
 -- ---- the row of a line, by the frame call
 
 -- what the frame call hands up
-unfoldable pub handed_row : ℕ → Framed → List ℕ
-handed_row n (Framed.Refused code) = []
-handed_row n (Framed.Done r) = report_row n r
+unfoldable pub handed_row : ℕ → Result Report ℕ → List ℕ
+handed_row n (Err code) = []
+handed_row n (Ok r) = report_row n r
 
-unfoldable pub counted_row : List ℤ → LineStep.Job → ℕ → List ℕ → Counted → List ℕ
-counted_row t job kind payload (Count.Refused code) = []
-counted_row t job kind payload (Count.Done next) = handed_row (one_more job.progress.lines) (Call.handed (Call.frame t job.block kind payload (replicate 80 (pos 0))))
+unfoldable pub counted_row : List ℤ → LineStep.Job → ℕ → List ℕ → Result Counts ℕ → List ℕ
+counted_row t job kind payload (Err code) = []
+counted_row t job kind payload (Ok next) = handed_row (one_more job.progress.lines) (Call.handed (Call.frame t job.block kind payload (replicate 80 (pos 0))))
 
 unfoldable pub frame_row : List ℤ → LineStep.Job → ℕ → List ℕ → List ℕ
 frame_row t job kind payload = counted_row t job kind payload (count kind (rules (decide kind payload)) job.progress.counts)
 
 unfoldable pub taken_row : List ℤ → LineStep.Job → Line.Answer → List ℕ
-taken_row t job (Line.answer (Read.Refused code) bytes) = []
-taken_row t job (Line.answer (Read.Frame kind) bytes) = frame_row t job kind (take (payload_length kind) bytes)
+taken_row t job (Line.answer (Err code) bytes) = []
+taken_row t job (Line.answer (Ok kind) bytes) = frame_row t job kind (take (payload_length kind) bytes)
 
 unfoldable pub line_row : List ℤ → LineStep.Job → List ℕ → List ℕ
 line_row t job l = taken_row t job (Line.line l (replicate 10 0))

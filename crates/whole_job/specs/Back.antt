@@ -1,6 +1,6 @@
 -- A job file read back: what was packed, for every state block that 01's check accepts and all numbers that a job can have; with other tables it is refused with 23. The counters of rules of
 -- any file that is read add up to twice its frames. Assumes nothing.
-use Rattle.std.specs.Prelude.{◌≡◌, Bool, true, false, cond, ◌&&◌, ◌≢◌, ℕ, ◌+◌, ◌-◌, ◌*◌, ◌^◌, ◌≤◌, ◌<◌, eqb, leb, T, ℤ}
+use Rattle.std.specs.Prelude.{◌≡◌, Bool, true, false, cond, ◌&&◌, ◌≢◌, ℕ, ◌+◌, ◌-◌, ◌*◌, ◌^◌, ◌≤◌, ◌<◌, eqb, leb, T, ℤ, Ok, Err}
 use Rattle.std.proofs.Math.Path.{refl}
 use Rattle.std.proofs.Common.{sym, ◌∙◌, subst, arith}
 use mathlib.Core.List.{List, [], ◌++◌, append_assoc, append-nil}
@@ -19,7 +19,6 @@ use Rattle.state.specs.State.{state_check}
 use Rattle.words.specs.Words.{Bytes, bytes, number_bytes, numbers_bytes}
 use Rattle.words.specs.Laws as Words
 use Rattle.job.specs.declared.Saved.{Saved}
-use Rattle.job.specs.declared.Found.TheVariants.{Refused, Job}
 use Rattle.job.specs.Job.{state_at, counts_at, sum_at, file_length, tag, version, widths, head, count_widths, state_and_counts, body, pack, fields, block, counts, place, sum_fits, known, fits, check, answer, read}
 
 -- ---- the numbers of a job
@@ -165,17 +164,17 @@ module _ (b : List ℤ) (p : Saved) (n : length b ≡ 234) (w : (k : ℕ) → ma
   unfolding check
   pack_check tables = rw (eq-eqb _ _ pack_length, pack_sum, pack_known, pack_place, e, pack_block)
 
-  pub pack_read : (lent : List ℤ) → state_check b ≡ 0 → read (pack b p) p.tables lent ≡ answer (Job p) b
+  pub pack_read : (lent : List ℤ) → state_check b ≡ 0 → read (pack b p) p.tables lent ≡ answer (Ok p) b
   unfolding read
   pack_read lent z = rw (pack_check p.tables, eq-eqb p.tables p.tables refl, eq-eqb _ _ z, pack_place, pack_block)
 
   -- other tables: 23
-  pub pack_other : (tables : ℕ) (lent : List ℤ) → p.tables ≢ tables → read (pack b p) tables lent ≡ answer (Refused 23) lent
+  pub pack_other : (tables : ℕ) (lent : List ℤ) → p.tables ≢ tables → read (pack b p) tables lent ≡ answer (Err 23) lent
   unfolding read
   pack_other tables lent h = rw (pack_check tables, ne_eqb _ _ h)
 
 -- a file with a right check sum and another tag or version: 25, whatever else it holds and whichever tables are at hand
-pub other_version : (f : List ℕ) (tables : ℕ) (lent : List ℤ) → length f ≡ file_length → sum_fits f ≡ true → known f ≡ false → read f tables lent ≡ answer (Refused 25) lent
+pub other_version : (f : List ℕ) (tables : ℕ) (lent : List ℤ) → length f ≡ file_length → sum_fits f ≡ true → known f ≡ false → read f tables lent ≡ answer (Err 25) lent
 unfolding read check
 other_version f tables lent n s k = rw (eq-eqb _ _ n, s, k)
 
@@ -193,17 +192,17 @@ read_fits f tables = by (eqb (length f) file_length) (sum_fits f) (known f) (fit
     by true false z w e h = absurd (omega arith)
     by false y z w e h = absurd (omega arith)
 
-read_place : (f : List ℕ) (tables : ℕ) (lent b : List ℤ) (p : Saved) → read f tables lent ≡ answer (Job p) b → (check f tables ≡ 0) × (p ≡ place f)
+read_place : (f : List ℕ) (tables : ℕ) (lent b : List ℤ) (p : Saved) → read f tables lent ≡ answer (Ok p) b → (check f tables ≡ 0) × (p ≡ place f)
 unfolding read
 read_place f tables lent b p = by (eqb (check f tables) 0) refl
   where
-    by : (x : Bool) → eqb (check f tables) 0 ≡ x → cond x (answer (Job (place f)) (block f)) (answer (Refused (check f tables)) lent) ≡ answer (Job p) b
+    by : (x : Bool) → eqb (check f tables) 0 ≡ x → cond x (answer (Ok (place f)) (block f)) (answer (Err (check f tables)) lent) ≡ answer (Ok p) b
         → (check f tables ≡ 0) × (p ≡ place f)
     by true e h = (eqb-true _ _ e, cc)
     by false e h = let z : ◌≡◌ {A = ℕ} 0 1 = cc in absurd (omega arith)
 
 -- two subframes for each frame
-pub read_both : (f : List ℕ) (tables : ℕ) (lent b : List ℤ) (p : Saved) → read f tables lent ≡ answer (Job p) b → Count.subframes p.counts ≡ 2 * p.counts.frames
+pub read_both : (f : List ℕ) (tables : ℕ) (lent b : List ℤ) (p : Saved) → read f tables lent ≡ answer (Ok p) b → Count.subframes p.counts ≡ 2 * p.counts.frames
 read_both f tables lent b p h =
     let e = read_place f tables lent b p h in
     fits_both p.counts (small p (rw e.1 (read_fits f tables e.0))).counts

@@ -1,7 +1,7 @@
 -- A call that is cut anywhere and resumed prints what the whole call prints. `Good` is the invariant of state and output file: it holds of a new job (`good_fresh`), each part that is
 -- decoded and written keeps it (`good_part`), a state file hands it on to the same tables and is refused with tables of another CRC-32 (`good_file`, `good_other`), and at the end the last form completes the
 -- output (`good_end`, `good_overlong`, `refused_part`). That the call is the same is tested in Call. Assumes nothing.
-use Rattle.std.specs.Prelude.{◌≡◌, true, ◌≢◌, ℕ, ◌+◌, ◌-◌, ◌*◌, ◌%◌, ◌^◌, ◌≤◌, ◌<◌, ℤ}
+use Rattle.std.specs.Prelude.{◌≡◌, true, ◌≢◌, ℕ, ◌+◌, ◌-◌, ◌*◌, ◌%◌, ◌^◌, ◌≤◌, ◌<◌, ℤ, Err}
 use Rattle.std.proofs.Math.Path.{refl, sym, ap}
 use Rattle.std.proofs.Common.{◌∙◌, arith, length-append, length-take, length-drop, take_at, take-add, take-take}
 use mathlib.Core.List.{List, [], ◌++◌, append_assoc, append-nil}
@@ -29,7 +29,6 @@ use Rattle.state.specs.State.{state_check}
 use Rattle.words.specs.Words.{Bytes, words}
 use Rattle.words.specs.Laws.{bytes_take}
 use Rattle.job.specs.declared.Saved.{Saved}
-use Rattle.job.specs.declared.Found.TheVariants.{Refused, Job}
 use Rattle.job.specs.Job.{start, pack, fits, answer, read}
 use Rattle.job.specs.Part.{progress, going, after, taken, part}
 use Rattle.job.specs.Part as Part
@@ -96,7 +95,7 @@ module _ (file text all : List ℕ) (b : List ℤ) (p : Saved) (out : List ℕ) 
   pub has_call : p.call < 2 ^ 32
   has_call = rw good.of_call (crc32_lt (take p.at text) (bytes_take p.at text c))
 
-  pub good_other : (other : List ℕ) → crc32 file ≢ crc32 other → read (pack b p) (crc32 other) lent ≡ answer (Refused 23) lent
+  pub good_other : (other : List ℕ) → crc32 file ≢ crc32 other → read (pack b p) (crc32 other) lent ≡ answer (Err 23) lent
   good_other other h = pack_other b p n w good.able has_sum has_call (crc32 other) lent (λ e. h (sym good.of_tables ∙ e))
 
 put_front : (o : ℕ) (v out : List ℕ) → o ≤ length out → take (o + length v) (put_at o v out) ≡ take o out ++ v

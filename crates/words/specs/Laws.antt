@@ -5,7 +5,6 @@ use Rattle.std.proofs.Math.Nat.{pow-succ'}
 use Rattle.std.specs.Int.{w16}
 use Rattle.std.specs.Int.Signed.{mag}
 use Rattle.std.proofs.Math.Seq.{append_snoc, take-length}
-use Rattle.std.proofs.lemmas.List.{set_at}
 use Rattle.basic_op.specs.Ops.{low16, extract_l}
 use Rattle.basic_op.specs.Low.{low_lt, low_bits}
 use Rattle.laws.specs.Lists.{at, filled, tab_at}
@@ -66,20 +65,18 @@ pub put_none : (l : List ℤ) (out : List ℕ) → out ≡ put l 0 out
 unfolding put bytes
 put_none l out = refl
 
--- two bytes written behind p
-two : (p r : List ℕ) (x y a b n : ℕ) → length p ≡ n → set (set (p ++ x ∷ y ∷ r) n a) (n + 1) b ≡ p ++ a ∷ b ∷ r
-two p r x y a b n h =
-    let e : length (p ++ (a ∷ [])) ≡ n + 1 = simp length-append (omega arith) in
-    rw (set_at p x (y ∷ r) a n h, ← append_snoc p a (y ∷ r)) (set_at (p ++ (a ∷ [])) y r b (n + 1) e ∙ append_snoc p a (b ∷ r))
-
-pub put_more : (l : List ℤ) (out z : List ℕ) (i w : ℕ) → i < length l → 2 * i + 1 < length out → z ≡ put l i out → w ≡ low16 (at l i)
-    → set (set z (2 * i) (w % 256)) (2 * i + 1) (w / 256) ≡ put l (i + 1) out
+-- one turn: the bytes of word i over the two at its place
+pub put_more : (l : List ℤ) (out z v : List ℕ) (i n : ℕ) → i < length l → 2 * i + 1 < length out → n ≡ 2 → z ≡ put l i out → v ≡ low16 (at l i) % 256 ∷ low16 (at l i) / 256 ∷ []
+    → take (2 * i) z ++ (v ++ drop n (drop (2 * i) z)) ≡ put l (i + 1) out
 unfolding put bytes
-put_more l out z i w h k e g =
-    let n : length (bytes (take i l)) ≡ 2 * i = length_bytes (take i l) ∙ rw length-take (omega arith) in
-    let d : 2 * suc i ≡ suc (suc (2 * i)) = omega arith in
-    rw (e, drop-cons out (2 * i) 0 (omega arith), drop-cons out (suc (2 * i)) 0 (omega arith), two (bytes (take i l)) _ _ _ (w % 256) (w / 256) (2 * i) n, add-one, take-suc l i (pos 0) h, bytes_append, g, d)
-    (sym (append_assoc (bytes (take i l)) _ _))
+put_more l out z v i n h k m e g =
+    let b : length (bytes (take i l)) ≡ 2 * i = length_bytes (take i l) ∙ rw length-take (omega arith) in
+    let d : 2 * i + 2 ≡ 2 * (i + 1) = omega arith in
+    let t : take (2 * i) z ≡ bytes (take i l) = rw e (take_at (bytes (take i l)) (drop (2 * i) out) (2 * i) b) in
+    let u : drop (2 * i) z ≡ drop (2 * i) out = rw e (drop_at (bytes (take i l)) (drop (2 * i) out) (2 * i) b) in
+    let w : drop 2 (drop (2 * i) out) ≡ drop (2 * (i + 1)) out = drop-drop 2 (2 * i) out ∙ ap (λ (j : ℕ). drop j out) d in
+    let y : bytes (take (i + 1) l) ≡ bytes (take i l) ++ v = rw (add-one, take-suc l i (pos 0) h, bytes_append, g) in
+    rw (t, u, m, w, y) (sym (append_assoc (bytes (take i l)) v _))
 
 pub to_end : (l : List ℤ) (out z : List ℕ) (i : ℕ) → z ≡ put l i out → i ≡ min (length l) (length out / 2) → z ≡ to_bytes l out
 unfolding to_bytes put

@@ -2,33 +2,38 @@
 // numbers of up to eight bytes, one or several behind another.
 #![tactic(auto)]
 
-ghost use Rattle.std.specs.Prelude.{◌≡◌, ◌*◌, ◌^◌, ◌<◌, ◌≤◌, min, length, take};
+ghost use Rattle.std.specs.Prelude.{◌≡◌, [], ◌∷◌, ◌*◌, ◌/◌, ◌%◌, ◌^◌, ◌<◌, ◌≤◌, min, length, take};
+ghost use Rattle.basic_op.specs.Ops.{low16};
 ghost use Rattle.words.specs.Words.{word, from_bytes, to_bytes, number, number_bytes, read_numbers, put_numbers};
 
 // The lesser of two lengths.
 pub fn lesser(a: usize, b: usize) -> usize
     ensures { (result ≡ min a b) × (result ≤ a) × (result ≤ b) }
 {
-    if a < b { a } else { b }
+    a.min(b)
 }
 
 // The word of two bytes.
 fn word(low: u8, high: u8) -> i16
     ensures { result ≡ word low high }
 {
-    let n = low as u16 + 256 * (high as u16);
-    basic_op::extract_l(n as i32)
+    i16::from_le_bytes([low, high])
+}
+
+// The two bytes of a word.
+fn pair(w: i16) -> [u8; 2]
+    ensures { result ≡ low16 w % 256 ∷ low16 w / 256 ∷ [] }
+{
+    w.to_le_bytes()
 }
 
 // The words of `bytes` to the front of `out`, as many whole words as both have; what lies behind them stays as it was.
 pub fn from_bytes(bytes: &[u8], out: &mut [i16])
     ensures { out.new ≡ from_bytes bytes.now out.old }
 {
-    let n = lesser(bytes.len() / 2, out.len());
-    let mut i = 0;
-    while i < n {
+    let n = out.len().min(bytes.len() / 2);
+    for i in 0..n {
         out[i] = word(bytes[2 * i], bytes[2 * i + 1]);
-        i += 1;
     }
 }
 
@@ -36,13 +41,9 @@ pub fn from_bytes(bytes: &[u8], out: &mut [i16])
 pub fn to_bytes(words: &[i16], out: &mut [u8])
     ensures { out.new ≡ to_bytes words.now out.old }
 {
-    let n = lesser(words.len(), out.len() / 2);
-    let mut i = 0;
-    while i < n {
-        let w = basic_op::low16(words[i]);
-        out[2 * i] = (w % 256) as u8;
-        out[2 * i + 1] = (w / 256) as u8;
-        i += 1;
+    let n = words.len().min(out.len() / 2);
+    for i in 0..n {
+        out[2 * i..2 * i + 2].copy_from_slice(&pair(words[i]));
     }
 }
 
@@ -50,10 +51,8 @@ pub fn to_bytes(words: &[i16], out: &mut [u8])
 pub fn number(bytes: &[u8]) -> u64
     ensures { (result ≡ number (take 8 bytes.now)) × (result < 2 ^ (8 * min 8 (length bytes.now))) }
 {
-    let mut i = lesser(8, bytes.len());
     let mut n = 0u64;
-    while 0 < i {
-        i -= 1;
+    for i in (0..bytes.len().min(8)).rev() {
         n = 256 * n + bytes[i] as u64;
     }
     n
@@ -64,11 +63,9 @@ pub fn put_number(n: u64, out: &mut [u8])
     ensures { out.new ≡ number_bytes (length out.old) n }
 {
     let mut rest = n;
-    let mut i = 0;
-    while i < out.len() {
-        out[i] = (rest % 256) as u8;
-        rest = rest / 256;
-        i += 1;
+    for b in out.iter_mut() {
+        *b = (rest % 256) as u8;
+        rest /= 256;
     }
 }
 
@@ -76,14 +73,11 @@ pub fn put_number(n: u64, out: &mut [u8])
 pub fn numbers(widths: &[usize], bytes: &[u8], out: &mut [u64])
     ensures { out.new ≡ read_numbers widths.now bytes.now out.old }
 {
-    let n = lesser(widths.len(), out.len());
     let mut at = 0;
-    let mut i = 0;
-    while i < n {
-        let end = at + lesser(widths[i], bytes.len() - at);
+    for i in 0..widths.len().min(out.len()) {
+        let end = at + widths[i].min(bytes.len() - at);
         out[i] = number(&bytes[at..end]);
         at = end;
-        i += 1;
     }
 }
 
@@ -91,13 +85,10 @@ pub fn numbers(widths: &[usize], bytes: &[u8], out: &mut [u64])
 pub fn put_numbers(widths: &[usize], values: &[u64], out: &mut [u8])
     ensures { out.new ≡ put_numbers widths.now values.now out.old }
 {
-    let n = lesser(widths.len(), values.len());
     let mut at = 0;
-    let mut i = 0;
-    while i < n {
-        let end = at + lesser(widths[i], out.len() - at);
+    for i in 0..widths.len().min(values.len()) {
+        let end = at + widths[i].min(out.len() - at);
         put_number(values[i], &mut out[at..end]);
         at = end;
-        i += 1;
     }
 }

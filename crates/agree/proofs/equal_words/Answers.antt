@@ -1,27 +1,21 @@
--- The answers of `agree::equal_words`.
-use mathlib.Core.Path.{◌∙◌}
-use Prim.Native.Nat.{◌-◌}
-use mir.Syntax.{w16}
-use Rattle.laws.specs.Back.{via}
-use Rattle.laws.specs.Loops.{nowhere_none, nowhere_hit, nowhere_miss, ended}
+-- `agree::equal_words` meets its contract: the parts that are compared are those of the definition.
+use Rattle.std.specs.Cmp.Lexicographic.{pointwise}
+use Rattle.std.specs.Ordering.{int_eq}
+use Rattle.std.proofs.Common.{◌≡◌, ◌+◌, ◌-◌, ◌∙◌, sym, take, drop, arith}
+use Rattle.laws.specs.Lists.{tab_part}
+use Rattle.block.specs.Block.{part}
+use Rattle.state.specs.Same.{same_parts}
 use Rattle.agree.specs.Agree.{equal_words}
-use native.Mathlib.Omega.{arith}
-use Rattle.std.proofs.Common.{rules}
 use Rattle.agree.proofs.equal_words.Goals as goal
-use Rattle.agree.proofs.equal_words.Goals.{else-x-y, then-x-y}
-
-pub loop-k-init : goal.loop-k-init
-unfolding equal_words
-loop-k-init c = (search rules, nowhere_none _)
-
-pub loop-k-preserved : goal.loop-k-preserved
-unfolding equal_words
-loop-k-preserved c =
-    let y = c.word-y in
-    let x = c.word-x in (
-      search rules,
-      elim c.if-x-y.branch [ then-x-y w ↦ w.ok-is ∙ nowhere_hit _ _ (rw (via w16 x.result x.type_inv, via w16 y.result y.type_inv, x.ensures, y.ensures) at w.if-x-y.true) | else-x-y w ↦ w.ok-is ∙ nowhere_miss _ _ _ c.loop-k.invariant.1 (rw (via w16 x.result x.type_inv, via w16 y.result y.type_inv, x.ensures, y.ensures) at w.if-x-y.false) ],
-    )
 
 pub returns : goal.returns
-returns c = ended (equal_words _ _ _) _ c.loop-k.invariant.1 (omega arith)
+unfolding equal_words part
+returns c =
+    let a = c.args.a.now in
+    let b = c.args.b.now in
+    let p = c.args.p in
+    let n = c.args.n in
+    let e : p + n - p ≡ n = omega arith in
+    let x : take (p + n - p) (drop p a) ≡ part a p n = rw e (sym (tab_part a p n (omega arith))) in
+    let y : take (p + n - p) (drop p b) ≡ part b p n = rw e (sym (tab_part b p n (omega arith))) in
+    same_parts a b p p n _ (c.eq.ensures ∙ (λ i. pointwise int_eq (x i) (y i)))

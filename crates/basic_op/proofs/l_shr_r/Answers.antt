@@ -18,13 +18,13 @@ pub returns-then-k-eq0 : goal.returns-then-k-eq0
 unfolding l_shr_r
 returns-then-k-eq0 c =
     let x = c.args.x in
-    to_z-of_z c.ranges.x ∙ rounded_zero x _ c.if-k-eq0.true ∙ ap (rounded x) (c.count-k.ensures ∙ ap nat_abs (to_z-of_z c.ranges.n)) ∙ by_pos (to_z-of_z c.ranges.n) _ _ c.if-n-lt0.false
+    to_z-of_z c.ranges.x ∙ rounded_zero x _ c.if-k-eq0.true ∙ ap (rounded x) (c.from-k.ensures ∙ c.unsigned_abs.ensures.value ∙ ap nat_abs (to_z-of_z c.ranges.n)) ∙ by_pos (to_z-of_z c.ranges.n) _ _ c.if-n-lt0.false
 
 pub returns-then-k-gt31 : goal.returns-then-k-gt31
 unfolding l_shr_r
 returns-then-k-gt31 c =
     let x = c.args.x in
-    rounded_far x _ c.if-k-gt31.true ∙ ap (rounded x) (c.count-k.ensures ∙ ap nat_abs (to_z-of_z c.ranges.n)) ∙ by_pos (to_z-of_z c.ranges.n) _ _ c.if-n-lt0.false
+    rounded_far x _ c.if-k-gt31.true ∙ ap (rounded x) (c.from-k.ensures ∙ c.unsigned_abs.ensures.value ∙ ap nat_abs (to_z-of_z c.ranges.n)) ∙ by_pos (to_z-of_z c.ranges.n) _ _ c.if-n-lt0.false
 
 pub overflow_add-half : goal.overflow_add-half
 overflow_add-half c = fits_add w32 w16 w64 _ (pos 1) (still w64 tt (fits_by w32 c.sar32-half.result c.sar32-half.type_inv)) (sfits_lit tt) tt
@@ -40,7 +40,7 @@ returns c =
     let x = c.args.x in
     (cc (to_z-of_z (overflow_cast-result c), via w64 c.sar64.result c.sar64.type_inv, to_z-of_z (overflow_add-half c.before), wide w64 tt (fits_by w32 c.sar32-half.result c.sar32-half.type_inv), to_z-of_z c.ranges.x))
     ∙ rounded_in x _ c.if-k-eq0.false c.if-k-gt31.false
-    ∙ ap (rounded x) (c.count-k.ensures ∙ ap nat_abs (to_z-of_z c.ranges.n)) ∙ by_pos (to_z-of_z c.ranges.n) _ _ c.if-n-lt0.false
+    ∙ ap (rounded x) (c.from-k.ensures ∙ c.unsigned_abs.ensures.value ∙ ap nat_abs (to_z-of_z c.ranges.n)) ∙ by_pos (to_z-of_z c.ranges.n) _ _ c.if-n-lt0.false
 
 pub overflow_cast-half : goal.overflow_cast-half
 overflow_cast-half c = widens w64 tt (fits_by w32 c.sar32-half.result c.sar32-half.type_inv)

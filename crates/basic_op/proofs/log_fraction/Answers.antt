@@ -4,7 +4,7 @@ use mathlib.Core.Path.{◌∙◌, ap}
 use native.Mathlib.Omega.{arith}
 use mir.Syntax.{w16, w32}
 use mir.ValLaws.{to_z_pos}
-use Rattle.laws.specs.Back.{came, via}
+use Rattle.laws.specs.Back.{via}
 use Rattle.basic_op.specs.Ops.{extract_h}
 use Rattle.basic_op.specs.Oper32b.{log_fraction}
 use Rattle.basic_op.specs.Log.{log2_word}
@@ -17,7 +17,7 @@ returns c =
     let m = c.args.m in
     via w16 c.extract_h.result c.extract_h.type_inv ∙ c.extract_h.ensures
     ∙ ap extract_h
-    (came w32 i ∙ i.ensures
+    (via w32 i.result i.type_inv ∙ i.ensures
     ∙ rw (
       via w16 c.word-next.result c.word-next.type_inv ∙ c.word-next.ensures ∙ log2_word c.args.t.now (m / 33554432 - 31) (1792 + m / 33554432) (omega arith) (omega arith),
       via w16 c.word-entry.result c.word-entry.type_inv ∙ c.word-entry.ensures ∙ log2_word c.args.t.now (m / 33554432 - 32) (1791 + m / 33554432) (omega arith) (omega arith),

@@ -1,13 +1,11 @@
 -- `basic_op::sar32` meets its contract. Assumes nothing.
-use mathlib.Core.Path.{◌∙◌}
-use native.Mathlib.Omega.{arith}
-use mir.Syntax.{w32}
-use Rattle.laws.specs.Range.{shr_far}
-use Rattle.laws.specs.Back.{back_shr}
+use Rattle.std.proofs.Common.{◌∙◌, to_z-of_z}
+use Rattle.std.specs.Int.{w32}
+use Rattle.laws.specs.Back.{via}
+use Rattle.basic_op.specs.Laws.{shr_min}
 use Rattle.basic_op.proofs.sar32.Goals as goal
 
-pub returns-then-n-gt31 : goal.returns-then-n-gt31
-returns-then-n-gt31 c = back_shr w32 _ _ c.ranges.x ∙ shr_far c.args.x 31 c.args.n c.ranges.x.sfits (omega arith)
-
 pub returns : goal.returns
-returns c = back_shr w32 _ _ c.ranges.x
+returns c =
+    via w32 c.unbounded_shr.result c.unbounded_shr.type_inv ∙ c.unbounded_shr.ensures
+    ∙ rw (to_z-of_z c.ranges.x) (shr_min c.args.x c.args.n 31 c.ranges.x.sfits)

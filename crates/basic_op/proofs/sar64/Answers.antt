@@ -1,13 +1,11 @@
 -- `basic_op::sar64` meets its contract. Assumes nothing.
-use mathlib.Core.Path.{◌∙◌}
-use native.Mathlib.Omega.{arith}
-use mir.Syntax.{w64}
-use Rattle.laws.specs.Range.{shr_far}
-use Rattle.laws.specs.Back.{back_shr}
+use Rattle.std.proofs.Common.{◌∙◌, to_z-of_z}
+use Rattle.std.specs.Int.{w64}
+use Rattle.laws.specs.Back.{via}
+use Rattle.basic_op.specs.Laws.{shr_min}
 use Rattle.basic_op.proofs.sar64.Goals as goal
 
-pub returns-then-n-gt63 : goal.returns-then-n-gt63
-returns-then-n-gt63 c = back_shr w64 _ _ c.ranges.x ∙ shr_far c.args.x 63 c.args.n c.ranges.x.sfits (omega arith)
-
 pub returns : goal.returns
-returns c = back_shr w64 _ _ c.ranges.x
+returns c =
+    via w64 c.unbounded_shr.result c.unbounded_shr.type_inv ∙ c.unbounded_shr.ensures
+    ∙ rw (to_z-of_z c.ranges.x) (shr_min c.args.x c.args.n 63 c.ranges.x.sfits)

@@ -15,4 +15,4 @@ returns-then-receiver-ne15 c = rw (eq-eqb _ _ c.if-bytes-ne10.false, ne_eqb _ _ 
 pub returns : goal.returns
 unfolding fields_call
 returns c =
-    rw (eq-eqb _ _ c.if-bytes-ne10.false, eq-eqb _ _ c.if-receiver-ne15.false, c.store.ensures, in_order _ _ c.unpack-p.ensures)
+    rw (eq-eqb _ _ c.if-bytes-ne10.false, eq-eqb _ _ c.if-receiver-ne15.false, c.copy_from_slice.ensures.after, in_order _ _ c.unpack-p.ensures)

@@ -1,8 +1,6 @@
 -- `block::put_word` meets its contract: one word, where the block has it.
-use native.Mathlib.Omega.{arith}
-use mir.Facts.{to_z-of_z}
+use Rattle.std.proofs.Common.{arith, to_z-of_z, rules}
 use Rattle.block.specs.Laws.{put_none, put_one}
-use Rattle.std.proofs.Common.{rules}
 use Rattle.block.proofs.put_word.Goals as goal
 
 pub returns-then-n-b : goal.returns-then-n-b

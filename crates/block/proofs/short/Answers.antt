@@ -1,21 +1,12 @@
--- The answers of `block::short`.
-use mathlib.Core.Path.{refl, ◌∙◌}
-use native.Mathlib.Omega.{arith}
-use lib.ListN.{length-set}
-use mir.Syntax.{w16}
-use Rattle.laws.specs.Lists.{filled_none, filled_end, fill}
-use Rattle.laws.specs.Back.{via}
-use Rattle.block.specs.Block.{part}
-use Rattle.std.proofs.Common.{rules}
+-- `block::short` meets its contract: zeros stand behind what is copied.
+use Rattle.std.proofs.Common.{sym, ◌≡◌, ◌+◌, ◌-◌, length, arith}
+use Rattle.std.proofs.lemmas.List.{drop-replicate, take_rest}
+use Rattle.block.specs.Laws.{part_short}
 use Rattle.block.proofs.short.Goals as goal
 
-pub loop-i-preserved : goal.loop-i-preserved
-loop-i-preserved c =
-    (search rules, simp length-set c.loop-i.invariant.1, fill _ _ _ _ _ (search rules) c.loop-i.invariant.2 (via w16 _ c.word.type_inv ∙ c.word.ensures))
-
 pub returns : goal.returns
-unfolding part
-returns c = filled_end _ _ _ _ _ c.loop-i.invariant.2 (omega arith) refl
-
-pub loop-i-init : goal.loop-i-init
-loop-i-init c = (search rules, refl, filled_none _ _)
+returns c =
+    let s = c.args in
+    let h : length s.b.now - (length s.b.now - s.n) ≡ s.n = omega arith in
+    let e : length s.out.now - (length s.b.now - s.n) ≡ s.n + length s.out.now - length s.b.now = omega arith in
+    rw (c.copy_from_slice.ensures.after, c.fill.ensures.after (λ y k. k), drop-replicate, e, take_rest) (sym (part_short s.b.now s.n (length s.out.now) c.requires.inside c.requires.fewer))

@@ -4,4 +4,4 @@ use Rattle.call.proofs.start.Goals as goal
 
 pub returns : goal.returns
 unfolding start
-returns c = rw c.none-counts.ensures
+returns c = rw c.none.ensures

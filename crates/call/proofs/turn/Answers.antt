@@ -7,4 +7,4 @@ pub returns : goal.returns
 returns c =
     let s = c.args in
     let e = c.lines-taken.ensures in
-    record { out_after = turn_is s.t.now (kept s.b.now s.from) s.most s.held.now s.out.now e.used_in_bounds.0 e.out_after c.overlong-job.ensures; used_in_bounds = e.used_in_bounds }
+    record { out_after = turn_is s.t.now (kept s.b.now s.from) s.most s.held.now s.out.now e.used_in_bounds.0 e.out_after c.overlong.ensures; used_in_bounds = e.used_in_bounds }

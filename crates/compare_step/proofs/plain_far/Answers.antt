@@ -9,4 +9,4 @@ use Rattle.compare_step.proofs.plain_far.Goals as goal
 pub returns : goal.returns
 returns c =
     let h : length c.args.y.now ≡ 80 = search rules in
-    rw (to_z-of_z c.ranges.n, to_z-of_z c.ranges.status, c.words10-tail.ensures, last_part 70 10 c.args.y.now h)
+    rw (to_z-of_z c.ranges.n, to_z-of_z c.ranges.status, c.words_at-tail.ensures, last_part 70 10 c.args.y.now h)

@@ -1,5 +1,5 @@
 -- `compare_step::step` meets its contract: by the kind of the frame.
-use Rattle.compare_step.specs.declared.Compared.TheVariants.{Concealed}
+use Rattle.compare_step.specs.declared.Class.TheVariants.{Concealed}
 use Rattle.compare_step.specs.Compare.{concealed_far, step}
 use Rattle.compare_step.proofs.step.Goals as goal
 

@@ -17,4 +17,4 @@ pub returns : goal.returns
 unfolding voice_far
 returns c =
     let h : length c.args.y.now ≡ 80 = search rules in
-    rw (to_z-of_z c.ranges.n, via w16 c.clean_after.result c.clean_after.type_inv, c.clean_after.ensures, via w16 c.next_status.result c.next_status.type_inv, c.next_status.ensures, c.words10-tail.ensures, last_part 70 10 c.args.y.now h, c.next_words-words.ensures, c.if-x.false)
+    rw (to_z-of_z c.ranges.n, via w16 c.clean_after.result c.clean_after.type_inv, c.clean_after.ensures, via w16 c.next_status.result c.next_status.type_inv, c.next_status.ensures, c.words_at-tail.ensures, last_part 70 10 c.args.y.now h, c.next_words-words.ensures, c.if-x.false)

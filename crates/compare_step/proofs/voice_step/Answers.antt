@@ -16,7 +16,7 @@ returns c h =
     let n = via w16 c.next_count-n.result c.next_count-n.type_inv ∙ c.next_count-n.ensures ∙ (let e = via w16 g.h.count c.struct_told-1.given.0.1 in let p = c.parity_ok.ensures in λ i. next_count (e i) (p i)) in
     let d = c.tells-told.ensures ∙ ap (λ (z : ℤ). tells z g.v y) n in
     let f = c.voice_far-far.ensures ∙ (λ i. voice_far (n i) g.v y (d i) g.h (k.value i)) in
-    let q = c.class-class.ensures ∙ (λ i. class (n i) (d i) (k.value i)) in
+    let q = c.class_of-class.ensures ∙ (λ i. class (n i) (d i) (k.value i)) in
     let s = k.s_after in
     let o = k.out_after h in
     λ i. record { far = f i; slots = s i; class = q i; samples = o i }

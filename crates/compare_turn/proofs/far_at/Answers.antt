@@ -1,16 +1,16 @@
 -- `compare_turn::far_at` meets its contract: each test picks its case of the definition.
-use borrow.Author.Tests.{eq-eqb, ne_eqb}
+use Rattle.far.specs.Laws.{taken_some}
 use Rattle.compare_turn.specs.Turn.{far_at}
 use Rattle.compare_turn.proofs.far_at.Goals as goal
 
-pub returns-then-found-ne0 : goal.returns-then-found-ne0
+pub returns-then-is_some : goal.returns-then-is_some
 unfolding far_at
-returns-then-found-ne0 c = rw (← c.frame-found.ensures.bytes_value.0, ne_eqb _ _ c.if-found-ne0.true)
+returns-then-is_some c = rw (← c.from-form.ensures, taken_some _ _ _ c.frame.ensures.frame_value, ← c.is_some.ensures, c.if-is_some.true)
 
 pub returns-then-far-ended : goal.returns-then-far-ended
 unfolding far_at
-returns-then-far-ended c = rw (← c.frame-found.ensures.bytes_value.0, eq-eqb _ _ c.if-found-ne0.false, c.if-far-ended.true)
+returns-then-far-ended c = rw (← c.from-form.ensures, taken_some _ _ _ c.frame.ensures.frame_value, ← c.is_some.ensures, c.if-is_some.false, c.if-far-ended.true)
 
 pub returns : goal.returns
 unfolding far_at
-returns c = rw (← c.frame-found.ensures.bytes_value.0, eq-eqb _ _ c.if-found-ne0.false, c.if-far-ended.false)
+returns c = rw (← c.from-form.ensures, taken_some _ _ _ c.frame.ensures.frame_value, ← c.is_some.ensures, c.if-is_some.false, c.if-far-ended.false)

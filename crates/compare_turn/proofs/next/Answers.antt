@@ -1,28 +1,19 @@
--- `compare_turn::next` meets its contract: each test picks its case of the definition.
-use borrow.Author.Tests.{eq-eqb, ne_eqb}
+-- `compare_turn::next` meets its contract: a case for each.
 use Rattle.compare_turn.specs.Turn.{next}
 use Rattle.compare_turn.proofs.next.Goals as goal
 
-pub returns-then-call-far : goal.returns-then-call-far
+pub returns-in-Wait : goal.returns-in-Wait
 unfolding next
-returns-then-call-far c = rw c.if-call-far.true
+returns-in-Wait c = rw (← c.from-far.ensures, c.in-Wait.is)
 
-pub returns-then-call-eq-END : goal.returns-then-call-eq-END
+pub returns-in-Ready : goal.returns-in-Ready
 unfolding next
-returns-then-call-eq-END c = rw (c.if-call-far.false, eq-eqb _ _ c.if-far-eq-END.true, eq-eqb _ _ c.if-call-eq-END.true)
+returns-in-Ready c = rw (← c.from-far.ensures, c.in-Ready.is, ← c.from-call.ensures) c.with_far.ensures
 
-pub returns-then-far-eq-END : goal.returns-then-far-eq-END
+pub returns-in-Bad : goal.returns-in-Bad
 unfolding next
-returns-then-far-eq-END c = rw (c.if-call-far.false, eq-eqb _ _ c.if-far-eq-END.true, ne_eqb _ _ c.if-call-eq-END.false)
+returns-in-Bad c = rw (← c.from-far.ensures, c.in-Bad.is, ← c.from-call.ensures) c.with_far-in-Bad.ensures
 
-pub returns-then-call-eq-END-2 : goal.returns-then-call-eq-END-2
+pub returns-in-End : goal.returns-in-End
 unfolding next
-returns-then-call-eq-END-2 c = rw (c.if-call-far.false, ne_eqb _ _ c.if-far-eq-END.false, eq-eqb _ _ c.if-call-eq-END-2.true)
-
-pub returns-then-call-eq-BAD : goal.returns-then-call-eq-BAD
-unfolding next
-returns-then-call-eq-BAD c = rw (c.if-call-far.false, ne_eqb _ _ c.if-far-eq-END.false, ne_eqb _ _ c.if-call-eq-END-2.false, eq-eqb _ _ c.if-call-eq-BAD.true)
-
-pub returns : goal.returns
-unfolding next
-returns c = rw (c.if-call-far.false, ne_eqb _ _ c.if-far-eq-END.false, ne_eqb _ _ c.if-call-eq-END-2.false, ne_eqb _ _ c.if-call-eq-BAD.false)
+returns-in-End c = rw (← c.from-far.ensures, c.in-End.is, ← c.from-call.ensures) c.without_far.ensures

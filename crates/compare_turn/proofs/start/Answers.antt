@@ -4,4 +4,4 @@ use Rattle.compare_turn.proofs.start.Goals as goal
 
 pub returns : goal.returns
 unfolding start
-returns c = rw c.none-tally.ensures
+returns c = rw c.none.ensures

@@ -17,17 +17,17 @@ returns-then-full c =
 pub with_frame-frame-requires : goal.with_frame-frame-requires
 with_frame-frame-requires c = sym c.full.ensures ∙ c.if-full.false
 
-pub with_rule-first-requires : goal.with_rule-first-requires
-with_rule-first-requires c =
-    let s = c.args in
-    let h = frame_few s.c s.kind 719999 (room _ (sym c.full.ensures ∙ c.if-full.false)).rules in
-    rw c.with_frame-frame.ensures (more_few (with_frame s.kind s.c) 719999 720000 (omega arith) h)
-
 pub with_rule-requires : goal.with_rule-requires
 with_rule-requires c =
     let s = c.args in
     let h = frame_few s.c s.kind 719999 (room _ (sym c.full.ensures ∙ c.if-full.false)).rules in
-    rw (c.with_rule-first.ensures, c.with_frame-frame.ensures) (rule_few _ s.r.first 719999 h)
+    rw c.with_frame-frame.ensures (more_few (with_frame s.kind s.c) 719999 720000 (omega arith) h)
+
+pub with_rule-requires-2 : goal.with_rule-requires-2
+with_rule-requires-2 c =
+    let s = c.args in
+    let h = frame_few s.c s.kind 719999 (room _ (sym c.full.ensures ∙ c.if-full.false)).rules in
+    rw (c.with_rule.ensures, c.with_frame-frame.ensures) (rule_few _ s.r.first 719999 h)
 
 pub returns : goal.returns
 unfolding count with_both
@@ -35,7 +35,7 @@ returns c =
     rw (
       sym c.known.ensures ∙ c.if-not-known.false,
       sym c.full.ensures ∙ c.if-full.false,
+      c.with_rule-2.ensures,
       c.with_rule.ensures,
-      c.with_rule-first.ensures,
       c.with_frame-frame.ensures,
     )

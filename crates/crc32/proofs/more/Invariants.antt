@@ -1,12 +1,8 @@
--- `crc32::more` meets its contract: before turn i the first i bytes are in the sum.
-use Prim.Native.Nat.{◌-◌, ◌≤◌}
+-- `crc32::more` meets its contract: the bytes passed are in the sum.
 use mathlib.Core.Path.{◌≡◌}
-use lib.ListN.{length, take}
+use lib.ListN.{take}
 use Rattle.crc32.specs.Crc32.{run}
 use Rattle.crc32.proofs.more.Given as goal
 
-abbrev pub invariant-loop-i : goal.invariant-loop-i
-invariant-loop-i l = (l.i ≤ length l.bytes) × (l.c ≡ run l.initial.c (take l.i l.bytes))
-
-abbrev pub decreases-loop-i : goal.decreases-loop-i
-decreases-loop-i l = length l.bytes - l.i
+abbrev pub invariant-loop-b : goal.invariant-loop-b
+invariant-loop-b l = l.c ≡ run l.initial.c (take l.b-index l.bytes)

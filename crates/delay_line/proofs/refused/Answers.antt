@@ -1,6 +1,6 @@
 -- `delay_line::refused` meets its contract.
 use native.Mathlib.Omega.{arith}
-use Rattle.text.specs.Laws.{then}
+use Rattle.text.specs.Laws.{then, begun}
 use Rattle.print.specs.Laws.{front}
 use Rattle.delay_line.specs.DelayLine.{refused}
 use Rattle.delay_line.proofs.refused.Goals as goal
@@ -8,4 +8,4 @@ use Rattle.delay_line.proofs.refused.Goals as goal
 pub returns : goal.returns
 unfolding refused
 returns c =
-    (omega (arith, c.figure-a.ensures.0, c.figure-b.ensures.0, c.put.ensures.place), front (then (then c.figure-a.ensures.1 c.figure-b.ensures.1) c.put.ensures))
+    (omega arith, rw c.written.ensures (front (begun c.new-w.ensures.front (then (then c.figure.ensures.part c.figure-2.ensures.part) c.put.ensures.part))))

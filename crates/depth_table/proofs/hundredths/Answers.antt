@@ -11,9 +11,9 @@ returns-then-frames-eq0 c = rw (eq-eqb _ _ c.if-frames-eq0.true)
 
 pub overflow_cast-result : goal.overflow_cast-result
 overflow_cast-result c =
-    rw (c.wide-2.ensures.0, c.wide.ensures.0, c.lesser.ensures) (record { fits = omega (arith, at_most_all c.args.lost c.args.frames) })
+    rw (c.from.ensures, c.from-2.ensures, c.min.ensures) (record { fits = omega (arith, at_most_all c.args.lost c.args.frames) })
 
 pub returns : goal.returns
 unfolding hundredths
 returns c =
-    rw (ne_eqb _ _ c.if-frames-eq0.false, c.wide-2.ensures.0, c.wide.ensures.0, c.lesser.ensures)
+    rw (ne_eqb _ _ c.if-frames-eq0.false, c.from.ensures, c.from-2.ensures, c.min.ensures)

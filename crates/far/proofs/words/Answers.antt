@@ -1,14 +1,12 @@
 -- `far::words` meets its contract.
-use mathlib.Core.Path.{refl, sym, ◌∙◌}
+use mathlib.Core.Path.{refl}
 use native.Mathlib.Omega.{arith}
 use Rattle.far.specs.Laws.{words_short, words_frame}
 use Rattle.std.proofs.Common.{rules}
 use Rattle.far.proofs.words.Goals as goal
 
 pub returns-then-bytes-lt-WORDS_LENGTH : goal.returns-then-bytes-lt-WORDS_LENGTH
-returns-then-bytes-lt-WORDS_LENGTH c = (c.none.ensures ∙ sym (words_short _ (search rules)), λ h. absurd (omega (arith, c.none.ensures)))
+returns-then-bytes-lt-WORDS_LENGTH c = words_short _ (search rules)
 
 pub returns : goal.returns
-returns c =
-    let t = words_frame c.args.bytes.now _ _ (omega arith) refl c.from_bytes.ensures in
-    (t.0, λ h. t.1)
+returns c = words_frame c.args.bytes.now _ _ (omega arith) refl c.from_bytes.ensures

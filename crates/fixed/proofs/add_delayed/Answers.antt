@@ -14,18 +14,13 @@ use Rattle.fixed.proofs.add_delayed.Goals as goal
 
 pub loop-n-preserved : goal.loop-n-preserved
 loop-n-preserved c =
-    let out = c.loop-n.out in (
-      search rules,
-      (
-        search rules,
-        write _ _ _ _ _ _ c.loop-n.invariant.1.1
-            (via w16 c.add.result c.add.type_inv ∙ c.add.ensures
-            ∙ rw (via w16 (at out (c.args.t0 + c.loop-n.n)) c.add-arg-1.given, via w16 c.mult.result c.mult.type_inv ∙ c.mult.ensures, via w16 (at out c.loop-n.n) c.mult-arg-1.given)),
-      ),
-    )
+    let out = c.loop-n.out in
+    write _ _ _ _ _ _ c.loop-n.invariant
+    (via w16 c.add.result c.add.type_inv ∙ c.add.ensures
+    ∙ rw (via w16 (at out (c.args.t0 + c.loop-n.n)) c.add-arg-1.given, via w16 c.mult.result c.mult.type_inv ∙ c.mult.ensures, via w16 (at out c.loop-n.n) c.mult-arg-1.given))
 
 pub returns : goal.returns
-returns c = add_delayed_end _ c.loop-n.n _ _ (to_z-of_z c.ranges.b) (omega arith) c.loop-n.invariant.1.1
+returns c = add_delayed_end _ c.loop-n.n _ _ (to_z-of_z c.ranges.b) (omega arith) c.loop-n.invariant
 
 pub loop-n-init : goal.loop-n-init
-loop-n-init c = (search rules, (search rules, run_none _ _ _))
+loop-n-init c = run_none _ _ _

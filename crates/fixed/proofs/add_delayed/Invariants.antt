@@ -7,7 +7,4 @@ use Rattle.basic_op.specs.Ops.{add, mult}
 use Rattle.fixed.proofs.add_delayed.Given as goal
 
 abbrev pub invariant-loop-n : goal.invariant-loop-n
-invariant-loop-n l = (l.n ≤ 40 - l.t0) × ((l.count ≡ 40 - l.t0) × (l.out ≡ run (λ k c. add (at c (l.t0 + k)) (mult (at c k) l.b)) l.t0 l.n l.initial.out))
-
-abbrev pub decreases-loop-n : goal.decreases-loop-n
-decreases-loop-n l = 40 - l.n
+invariant-loop-n l = l.out ≡ run (λ k c. add (at c (l.t0 + k)) (mult (at c k) l.b)) l.t0 l.n l.initial.out

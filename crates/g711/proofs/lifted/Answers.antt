@@ -1,6 +1,5 @@
 -- `g711::lifted` meets its contract.
-use native.Mathlib.Omega.{arith}
-use borrow.Author.Tests.{lt-ltb, le-ltb}
+use Rattle.std.proofs.Common.{arith, lt-ltb, le-ltb}
 use Rattle.g711.specs.Fast.{lifted}
 use Rattle.g711.proofs.lifted.Goals as goal
 

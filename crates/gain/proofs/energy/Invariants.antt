@@ -3,8 +3,8 @@ use Prim.Native.Nat.{◌-◌, ◌≤◌}
 use Rattle.gain.specs.Laws.{Squares}
 use Rattle.gain.proofs.energy.Given as goal
 
-abbrev pub invariant-loop-k : goal.invariant-loop-k
-invariant-loop-k l = (l.k ≤ 40) × Squares l.code l.k l.sum
+abbrev pub invariant-loop-x : goal.invariant-loop-x
+invariant-loop-x l = (l.x-index ≤ 40) × Squares l.x-items l.x-index l.sum
 
-abbrev pub decreases-loop-k : goal.decreases-loop-k
-decreases-loop-k l = 40 - l.k
+abbrev pub decreases-loop-x : goal.decreases-loop-x
+decreases-loop-x l = 40 - l.x-index

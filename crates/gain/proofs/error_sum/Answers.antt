@@ -12,19 +12,19 @@ use Rattle.gain.specs.Laws.{fits_word}
 use Rattle.std.proofs.Common.{rules}
 use Rattle.gain.proofs.error_sum.Goals as goal
 
-pub overflow_cast-mem : goal.overflow_cast-mem
-overflow_cast-mem c = fits_word (at c.args.mem c.loop-k.k) c.l_add-arg-1.given
+pub overflow_cast-u : goal.overflow_cast-u
+overflow_cast-u c = fits_word (at c.args.mem c.loop-u.u-index) c.u-1.given
 
-pub loop-k-preserved : goal.loop-k-preserved
-loop-k-preserved c = (
+pub loop-u-preserved : goal.loop-u-preserved
+loop-u-preserved c = (
   search rules,
-  steps_turn _ _ _ _ _ c.loop-k.invariant.1
-      (via w32 c.l_add-sum.result c.l_add-sum.type_inv ∙ c.l_add-sum.ensures ∙ rw (to_z-of_z (overflow_cast-mem c.before), via w16 _ c.l_add-arg-1.given)),
+  steps_turn _ _ _ _ _ c.loop-u.invariant.1
+      (via w32 c.l_add-sum.result c.l_add-sum.type_inv ∙ c.l_add-sum.ensures ∙ rw (to_z-of_z (overflow_cast-u c.before), via w16 _ c.u-1.given)),
 )
 
 pub returns : goal.returns
 unfolding error_sum
-returns c = ended_from (steps _) 4 c.loop-k.invariant.1 (omega arith)
+returns c = ended_from (steps _) 4 c.loop-u.invariant.1 (omega arith)
 
-pub loop-k-init : goal.loop-k-init
-loop-k-init c = (search rules, steps_none _ _)
+pub loop-u-init : goal.loop-u-init
+loop-u-init c = (search rules, steps_none _ _)

@@ -7,8 +7,8 @@ use Rattle.laws.specs.Loops.{steps}
 use Rattle.basic_op.specs.Ops.{l_add}
 use Rattle.gain.proofs.error_sum.Given as goal
 
-abbrev pub invariant-loop-k : goal.invariant-loop-k
-invariant-loop-k l = (l.k ≤ 4) × (l.sum ≡ steps (λ i s. l_add s (at l.mem i)) l.k (pos 0))
+abbrev pub invariant-loop-u : goal.invariant-loop-u
+invariant-loop-u l = (l.u-index ≤ 4) × (l.sum ≡ steps (λ i s. l_add s (at l.u-items i)) l.u-index (pos 0))
 
-abbrev pub decreases-loop-k : goal.decreases-loop-k
-decreases-loop-k l = 4 - l.k
+abbrev pub decreases-loop-u : goal.decreases-loop-u
+decreases-loop-u l = 4 - l.u-index

@@ -12,27 +12,28 @@ unfolding lend_count
 returns-then-not-rules_known c =
     rw (sym c.known-kind_known.ensures ∙ c.if-not-kind_known.false, sym c.rules_known-rules_known.ensures ∙ c.if-not-rules_known.true)
 
-pub returns-in-Refused : goal.returns-in-Refused
+pub returns-in-Err : goal.returns-in-Err
 unfolding lend_count lend_counted
-returns-in-Refused c =
+returns-in-Err c =
     rw (
       sym c.known-kind_known.ensures ∙ c.if-not-kind_known.false,
       sym c.rules_known-rules_known.ensures ∙ c.if-not-rules_known.false,
-      sym c.rules_of_numbers.ensures,
+      sym c.rules_of_numbers-rules.ensures,
       sym c.counts_of.ensures,
-      sym c.count-answer.ensures,
-      c.in-Refused.is,
+      sym c.count.ensures,
+      c.in-Err.is,
+      c.number.ensures,
     )
 
-pub returns-in-Done : goal.returns-in-Done
+pub returns-in-Ok : goal.returns-in-Ok
 unfolding lend_count lend_counted
-returns-in-Done c =
+returns-in-Ok c =
     rw (
       sym c.known-kind_known.ensures ∙ c.if-not-kind_known.false,
       sym c.rules_known-rules_known.ensures ∙ c.if-not-rules_known.false,
-      sym c.rules_of_numbers.ensures,
+      sym c.rules_of_numbers-rules.ensures,
       sym c.counts_of.ensures,
-      sym c.count-answer.ensures,
-      c.in-Done.is,
+      sym c.count.ensures,
+      c.in-Ok.is,
       c.numbers_of.ensures,
     )

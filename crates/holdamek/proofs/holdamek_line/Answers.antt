@@ -2,10 +2,10 @@
 use Rattle.holdamek.specs.Lent.{lend_line}
 use Rattle.holdamek.proofs.holdamek_line.Goals as goal
 
-pub returns-in-Refused : goal.returns-in-Refused
+pub returns-in-Err : goal.returns-in-Err
 unfolding lend_line
-returns-in-Refused c = rw (← c.line-answer.ensures, c.in-Refused.is)
+returns-in-Err c = rw (← c.line.ensures, c.in-Err.is, c.number.ensures)
 
-pub returns-in-Frame : goal.returns-in-Frame
+pub returns-in-Ok : goal.returns-in-Ok
 unfolding lend_line
-returns-in-Frame c = rw (← c.line-answer.ensures, c.in-Frame.is)
+returns-in-Ok c = rw (← c.line.ensures, c.in-Ok.is)

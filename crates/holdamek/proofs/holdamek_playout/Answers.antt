@@ -2,10 +2,10 @@
 use Rattle.holdamek.specs.Lent.{lend_playout}
 use Rattle.holdamek.proofs.holdamek_playout.Goals as goal
 
-pub returns-in-Refused : goal.returns-in-Refused
+pub returns-in-Err : goal.returns-in-Err
 unfolding lend_playout
-returns-in-Refused c = rw (← c.playout-answer.ensures, c.in-Refused.is)
+returns-in-Err c = rw (← c.in-Err.ensures, c.number.ensures)
 
-pub returns-in-Lost : goal.returns-in-Lost
+pub returns-in-Ok : goal.returns-in-Ok
 unfolding lend_playout
-returns-in-Lost c = rw (← c.playout-answer.ensures, c.in-Lost.is)
+returns-in-Ok c = rw (← c.in-Ok.ensures)

@@ -2,10 +2,10 @@
 use Rattle.holdamek.specs.Lent.{lend_write}
 use Rattle.holdamek.proofs.holdamek_write_line.Goals as goal
 
-pub returns-in-Refused : goal.returns-in-Refused
+pub returns-in-Err : goal.returns-in-Err
 unfolding lend_write
-returns-in-Refused c = rw (← c.write-answer.ensures, c.in-Refused.is)
+returns-in-Err c = rw (← c.write.ensures, c.in-Err.is, c.number.ensures)
 
-pub returns-in-Done : goal.returns-in-Done
+pub returns-in-Ok : goal.returns-in-Ok
 unfolding lend_write
-returns-in-Done c = rw (← c.write-answer.ensures, c.in-Done.is)
+returns-in-Ok c = rw (← c.write.ensures, c.in-Ok.is)

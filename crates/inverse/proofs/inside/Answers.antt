@@ -1,27 +1,24 @@
 -- The answers of `inverse::inside`.
-use Prim.Native.Nat.{◌-◌}
-use mathlib.Core.Path.{◌∙◌}
-use native.Mathlib.Omega.{arith}
-use mir.Syntax.{w16}
+use Rattle.std.specs.Int.{w16}
+use Rattle.std.specs.Int.Signed.{mag}
 use Rattle.laws.specs.Lists.{at}
 use Rattle.laws.specs.Back.{via}
 use Rattle.laws.specs.Loops.{nowhere_none, nowhere_hit, nowhere_miss, ended}
 use Rattle.inverse.specs.Inverse.{inside}
-use Rattle.std.proofs.Common.{rules}
+use Rattle.std.proofs.Common.{rules, arith, ◌∙◌, ◌^◌, ◌<◌}
 use Rattle.inverse.proofs.inside.Goals as goal
 use Rattle.inverse.proofs.inside.Goals.{else-s, then-s}
 
-pub loop-k-init : goal.loop-k-init
+pub loop-s-init : goal.loop-s-init
 unfolding inside
-loop-k-init c = (search rules, nowhere_none _)
+loop-s-init c = nowhere_none _
 
-pub loop-k-preserved : goal.loop-k-preserved
+pub loop-s-preserved : goal.loop-s-preserved
 unfolding inside
-loop-k-preserved c =
-    let e = via w16 (at c.args.y.now c.loop-k.k) c.s-1.given in (
-      search rules,
-      elim c.if-s.branch [ then-s w ↦ w.ok-is ∙ nowhere_hit _ _ (rw e at w.if-s.true) | else-s w ↦ w.ok-is ∙ nowhere_miss _ _ _ c.loop-k.invariant.1 (rw e at w.if-s.false) ],
-    )
+loop-s-preserved c =
+    let f : mag (at c.args.y.now c.loop-s.s-index) < 2 ^ 15 = search rules in
+    let e = via w16 (at c.args.y.now c.loop-s.s-index) f in
+    elim c.if-s.branch [ then-s w ↦ w.ok-is ∙ nowhere_hit _ _ (rw e at w.if-s.true) | else-s w ↦ w.ok-is ∙ nowhere_miss _ _ _ c.loop-s.invariant (rw e at w.if-s.false) ]
 
 pub returns : goal.returns
-returns c = ended (inside _) _ c.loop-k.invariant.1 (omega arith)
+returns c = ended (inside _) _ c.loop-s.invariant (omega arith)

@@ -20,4 +20,4 @@ overflow_cast-result-3 c =
 
 pub returns : goal.returns
 unfolding place
-returns c = rw (c.counts-counts.ensures, c.fields-values.ensures)
+returns c = rw (c.counts.ensures, c.fields-values.ensures)

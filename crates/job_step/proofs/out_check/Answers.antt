@@ -5,8 +5,8 @@ use Rattle.job_step.proofs.out_check.Goals as goal
 
 pub returns-then-p-eq0 : goal.returns-then-p-eq0
 unfolding out_check
-returns-then-p-eq0 c = rw (c.code.ensures, c.own_output.ensures, eq-eqb _ _ c.if-p-eq0.true)
+returns-then-p-eq0 c = rw (c.answer.ensures, c.own_output.ensures, eq-eqb _ _ c.if-p-eq0.true)
 
 pub returns : goal.returns
 unfolding out_check
-returns c = rw (c.code-2.ensures, c.own_tail.ensures, ne_eqb _ _ c.if-p-eq0.false)
+returns c = rw (c.answer-2.ensures, c.own_tail.ensures, ne_eqb _ _ c.if-p-eq0.false)

@@ -4,4 +4,4 @@ use Rattle.leg_frame.proofs.read_words.Goals as goal
 
 pub returns : goal.returns
 unfolding taken samples
-returns c = (rw c.lesser.ensures.0, c.from_bytes.ensures)
+returns c = (rw c.min.ensures, c.from_bytes.ensures)

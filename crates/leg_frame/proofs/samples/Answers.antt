@@ -15,4 +15,4 @@ pub returns : goal.returns
 unfolding taken samples
 returns c =
     let e = ne_eqb c.args.form 3 c.if-form-eq-LINEAR.false in
-    record { value = (rw e c.expand.ensures.0, rw (e, ← c.law.ensures.0) c.expand.ensures.1); upper_bound = omega (arith, c.expand.ensures.0) }
+    record { value = (rw e c.expand.ensures.0, rw (e, ← c.law.ensures) c.expand.ensures.1); upper_bound = omega (arith, c.expand.ensures.0) }

@@ -1,10 +1,10 @@
 -- `line::is_hex` meets its contract: an odd number of bytes is no text of bytes, and of an even number all are digits.
-use mathlib.Core.Path.{sym, ◌∙◌}
-use Rattle.line.specs.Laws.{hex_odd, hex_even}
+use Rattle.std.proofs.Common.{sym, ◌∙◌, ne_eqb}
+use Rattle.line.specs.Laws.{each_digit, hex_odd, hex_even}
 use Rattle.line.proofs.is_hex.Goals as goal
 
-pub returns-then-text-ne0 : goal.returns-then-text-ne0
-returns-then-text-ne0 c = sym (hex_odd _ c.if-text-ne0.true)
+pub returns-then-text-eq0 : goal.returns-then-text-eq0
+returns-then-text-eq0 c = c.digits.ensures ∙ each_digit _ ∙ hex_even _ c.if-text-eq0.true
 
-pub returns : goal.returns
-returns c = c.digits.ensures ∙ hex_even _ c.if-text-ne0.false
+pub returns-else-text-eq0 : goal.returns-else-text-eq0
+returns-else-text-eq0 c = ne_eqb _ _ c.if-text-eq0.false ∙ sym (hex_odd _ c.if-text-eq0.false)

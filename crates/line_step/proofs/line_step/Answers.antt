@@ -1,24 +1,28 @@
 -- `line_step::line_step` meets its contract, by Line's two answers.
-use native.Mathlib.Omega.{arith}
+use Rattle.std.proofs.Common.{arith, length-take}
 use Rattle.kind.specs.Laws.{payload_few}
 use Rattle.line_step.specs.Step.{kept}
 use Rattle.line_step.specs.Laws.{stop_given, not_line, is_line}
 use Rattle.line_step.proofs.line_step.Goals as goal
 
-pub returns-in-Refused : goal.returns-in-Refused
-returns-in-Refused c =
+pub returns-in-Err : goal.returns-in-Err
+returns-in-Err c =
     let s = c.args in
     record {
-      out_after = rw (not_line s.t.now (kept s.b.now s.from) s.text.now c.in-Refused.is c.line-answer.ensures)
-          (stop_given s.b.now s.from _ s.out.now c.stopped.ensures.0 c.stopped.ensures.1);
+      out_after = rw (not_line s.t.now (kept s.b.now s.from) s.text.now c.in-Err.is c.line.ensures)
+          (stop_given s.b.now s.from _ s.out.now (rw c.number.ensures at c.stopped.ensures.0) c.stopped.ensures.1);
       written_le_frame_room = omega (arith, c.stopped.ensures.1);
     }
 
+pub slice_bounds-payload-end : goal.slice_bounds-payload-end
+slice_bounds-payload-end c =
+    omega (arith, c.payload_length-n.ensures, payload_few c.in-Ok.kind, c.line.auto.payload)
+
 pub slice_bounds-frame_step-end : goal.slice_bounds-frame_step-end
 slice_bounds-frame_step-end c =
-    omega (arith, c.payload_length-n.ensures, payload_few c.in-Frame.kind, c.line-answer.auto.payload)
+    rw length-take (omega (arith, c.payload_length-n.ensures, payload_few c.in-Ok.kind, c.line.auto.payload))
 
-pub returns-in-Frame : goal.returns-in-Frame
-returns-in-Frame c =
+pub returns-in-Ok : goal.returns-in-Ok
+returns-in-Ok c =
     let s = c.args in
-    record { out_after = rw (is_line s.t.now (kept s.b.now s.from) s.text.now c.in-Frame.is c.line-answer.ensures c.payload_length-n.ensures) c.frame_step.ensures.out_after; written_le_frame_room = c.frame_step.ensures.written_le_frame_room }
+    record { out_after = rw (is_line s.t.now (kept s.b.now s.from) s.text.now c.in-Ok.is c.line.ensures c.payload_length-n.ensures) c.frame_step.ensures.out_after; written_le_frame_room = c.frame_step.ensures.written_le_frame_room }

@@ -1,11 +1,9 @@
 -- The answers of `lsp::cosines`.
 use mathlib.Core.Path.{refl, ◌∙◌}
-use Prim.Native.Nat.{◌-◌}
 use mir.Syntax.{w16}
 use mir.Facts.{to_z-of_z}
 use Rattle.laws.specs.Lists.{at, filled_none, fill, filled_end}
 use Rattle.laws.specs.Back.{via, via1}
-use Rattle.basic_op.specs.Ops.{mult}
 use Rattle.lsp.specs.Lsp.{cosine, lsf_to_lsp}
 use native.Mathlib.Omega.{arith}
 use Rattle.std.proofs.Common.{rules}

@@ -1,6 +1,5 @@
 -- The answers of `lsp::interpolate`.
 use mathlib.Core.Path.{refl}
-use Prim.Native.Nat.{◌-◌}
 use lib.Signed.{shr_z}
 use mir.Syntax.{w16}
 use Rattle.laws.specs.Lists.{at, filled_none, fill, filled_end}

@@ -3,7 +3,6 @@ use mathlib.Core.Path.{◌∙◌}
 use mir.Syntax.{w16}
 use mir.Facts.{to_z-of_z}
 use Rattle.laws.specs.Back.{via}
-use Rattle.basic_op.specs.Ops.{sub}
 use Rattle.lsp.specs.Laws.{too_near, far_enough}
 use Rattle.lsp.proofs.keep_distance.Goals as goal
 

@@ -1,6 +1,5 @@
 -- The answers of `lsp::keep_distances`.
 use mathlib.Core.Path.{◌∙◌}
-use Prim.Native.Nat.{◌-◌}
 use mir.Syntax.{w16}
 use mir.Facts.{to_z-of_z}
 use Rattle.laws.specs.Loops.{run, run_none, write, ended_from}

@@ -1,12 +1,13 @@
--- `lsp::predictor_index` meets its contract: one branch for each outcome of its test.
-use mir.Facts.{to_z-of_z}
+-- `lsp::predictor_index` meets its contract. Assumes nothing.
+use Rattle.std.proofs.Common.{◌≡◌, ◌∙◌, refl, Bool, true, false, cond, to_z-of_z}
+use mir.Val.{bool_byte}
 use Rattle.lsp.specs.Lsp.{predictor_index}
 use Rattle.lsp.proofs.predictor_index.Goals as goal
 
-pub returns-then-p-gt0 : goal.returns-then-p-gt0
-unfolding predictor_index
-returns-then-p-gt0 c = rw (rw (to_z-of_z c.ranges.p) at c.if-p-gt0.true)
+as_number : (b : Bool) → bool_byte b ≡ cond b 1 0
+as_number true = refl
+as_number false = refl
 
-pub returns-else-p-gt0 : goal.returns-else-p-gt0
+pub returns : goal.returns
 unfolding predictor_index
-returns-else-p-gt0 c = rw (rw (to_z-of_z c.ranges.p) at c.if-p-gt0.false)
+returns c = c.from.ensures ∙ rw (to_z-of_z c.ranges.p) (as_number _)

@@ -1,10 +1,8 @@
 -- The answers of `lsp::spaced`.
 use mathlib.Core.Path.{◌∙◌}
-use Prim.Native.Nat.{◌-◌}
 use mir.Syntax.{w16}
 use mir.Val.{to_z, of_z}
 use mir.Facts.{to_z-of_z}
-use Rattle.laws.specs.Lists.{at}
 use Rattle.laws.specs.Loops.{nowhere, nowhere_none, nowhere_hit, nowhere_miss, ended}
 use Rattle.laws.specs.Back.{via2}
 use Rattle.basic_op.specs.Ops.{add, sub}

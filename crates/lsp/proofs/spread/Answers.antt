@@ -1,9 +1,8 @@
 -- The answers of `lsp::spread`.
 use mathlib.Core.Path.{◌∙◌}
-use Prim.Native.Nat.{◌-◌}
 use mir.Facts.{to_z-of_z}
 use Rattle.laws.specs.Loops.{steps, steps_none, steps_turn, ended_from}
-use Rattle.lsp.specs.Lsp.{spread_pair, enforce_spacing}
+use Rattle.lsp.specs.Lsp.{enforce_spacing}
 use native.Mathlib.Omega.{arith}
 use Rattle.std.proofs.Common.{rules}
 use Rattle.lsp.proofs.spread.Goals as goal

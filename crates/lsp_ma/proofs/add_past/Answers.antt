@@ -1,6 +1,5 @@
 -- The answers of `lsp_ma::add_past`.
 use mathlib.Core.Path.{◌∙◌}
-use Prim.Native.Nat.{◌-◌}
 use mir.Syntax.{w16, w32}
 use mir.Facts.{to_z-of_z}
 use Rattle.laws.specs.Loops.{steps, steps_none, steps_turn, ended_from}

@@ -1,6 +1,5 @@
 -- The answers of `lsp_ma::invert_ma_prediction`.
 use mathlib.Core.Path.{refl}
-use Prim.Native.Nat.{◌-◌}
 use lib.IntN.{pos}
 use mir.Syntax.{w16}
 use Rattle.laws.specs.Lists.{filled_none, fill, filled_end}

@@ -2,7 +2,7 @@
 use mathlib.Core.Path.{◌∙◌}
 use mir.Syntax.{w16, w32}
 use mir.Facts.{to_z-of_z}
-use Rattle.laws.specs.Back.{came, via}
+use Rattle.laws.specs.Back.{via}
 use Rattle.lsp_ma.proofs.inverted.Goals as goal
 
 pub returns : goal.returns
@@ -14,4 +14,4 @@ returns c =
     let first = c.l_deposit_h in
     via w16 c.extract_h-2.result c.extract_h-2.type_inv
     ∙ (c.extract_h-2.ensures
-    ∙ rw (came w32 shifted, shifted.ensures, came w32 scaled, scaled.ensures, came w16 upper, upper.ensures, came w32 rest, rest.ensures, came w32 first, first.ensures, to_z-of_z c.ranges.omega, to_z-of_z c.ranges.inverse))
+    ∙ rw (via w32 shifted.result shifted.type_inv, shifted.ensures, via w32 scaled.result scaled.type_inv, scaled.ensures, via w16 upper.result upper.type_inv, upper.ensures, via w32 rest.result rest.type_inv, rest.ensures, via w32 first.result first.type_inv, first.ensures, to_z-of_z c.ranges.omega, to_z-of_z c.ranges.inverse))

@@ -1,6 +1,5 @@
 -- The answers of `lsp_ma::ma_prediction`.
 use mathlib.Core.Path.{refl}
-use Prim.Native.Nat.{◌-◌}
 use mir.Syntax.{w16}
 use Rattle.laws.specs.Lists.{filled_none, fill, filled_end}
 use Rattle.laws.specs.Back.{via2}

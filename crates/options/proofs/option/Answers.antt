@@ -1,6 +1,6 @@
 -- `options::option` meets its contract: each way out rewrites with the tests that led there.
 use mathlib.Core.Path.{sym, ◌∙◌}
-use native.Mathlib.Omega.{arith}
+use Rattle.std.proofs.Common.{ap, not}
 use borrow.Author.Tests.{eq-eqb, ne_eqb}
 use Rattle.options.specs.Options.{option}
 use Rattle.options.specs.Laws.{some_byte}
@@ -15,14 +15,14 @@ unfolding option
 returns-then-same-2 c =
     rw (sym c.same.ensures ∙ c.if-same.false, sym c.same-2.ensures ∙ c.if-same-2.true)
 
-pub returns-then-tables-eq0 : goal.returns-then-tables-eq0
+pub returns-then-is_none : goal.returns-then-is_none
 unfolding option
-returns-then-tables-eq0 c =
+returns-then-is_none c =
     rw (
       sym c.same.ensures ∙ c.if-same.false,
       sym c.same-2.ensures ∙ c.if-same-2.false,
       sym c.same-3.ensures ∙ c.if-same-3.true,
-      eq-eqb c.args.tables 0 (omega arith),
+      c.is_none.ensures ∙ ap not c.if-is_none.true,
     )
 
 pub returns-then-same-3 : goal.returns-then-same-3
@@ -32,7 +32,7 @@ returns-then-same-3 c =
       sym c.same.ensures ∙ c.if-same.false,
       sym c.same-2.ensures ∙ c.if-same-2.false,
       sym c.same-3.ensures ∙ c.if-same-3.true,
-      ne_eqb c.args.tables 0 (λ e. omega arith),
+      c.is_none.ensures ∙ ap not c.if-is_none.false,
     )
 
 pub bounds-word-0 : goal.bounds-word-0

@@ -3,16 +3,15 @@ use mathlib.Core.Path.{◌≡◌, sym, ◌∙◌}
 use mathlib.Core.Bool.{true}
 use Rattle.bitstream.specs.Fields.{widths}
 use Rattle.pack.specs.Pack.{fits, pack, packed}
-use Rattle.pack.specs.Laws.{listed, halves, second_lt, copied}
-use Rattle.std.proofs.Common.{rules}
+use Rattle.pack.specs.Laws.{listed, halves, second_lt}
 use Rattle.pack.proofs.packed.Goals as goal
 
 pub returns-then-not-fits : goal.returns-then-not-fits
 unfolding packed
 returns-then-not-fits c = rw (sym c.fits.ensures ∙ c.if-not-fits.true)
 
-pub bytes_of-v-requires : goal.bytes_of-v-requires
-bytes_of-v-requires c =
+pub bytes_of-requires : goal.bytes_of-requires
+bytes_of-requires c =
     let p = c.args.p in
     let e : fits widths (listed p) ≡ true = sym c.fits.ensures ∙ c.if-not-fits.false in
     rw c.second_half-b.ensures (second_lt p (rw e tt))
@@ -20,12 +19,11 @@ bytes_of-v-requires c =
 pub returns : goal.returns
 unfolding packed pack
 returns c =
-    let s = c.args in
     rw (
       sym c.fits.ensures ∙ c.if-not-fits.false,
-      copied c.bytes_of-v.result s.bytes.now c.copy.new.to (search rules) c.copy.ensures.written,
-      c.bytes_of-v.ensures,
+      c.copy_from_slice.ensures.after,
+      c.bytes_of.ensures,
       c.second_half-b.ensures,
       c.first_half-a.ensures,
-      halves s.p,
+      halves c.args.p,
     )

@@ -1,17 +1,10 @@
 -- `print::figures` meets its contract: the figures, and the closing behind them.
 use native.Mathlib.Omega.{arith}
-use Rattle.text.specs.Laws.{then}
+use Rattle.text.specs.Laws.{then, begun}
 use Rattle.print.specs.Print.{figures}
 use Rattle.print.proofs.figures.Goals as goal
-
-pub figure-b-requires : goal.figure-b-requires
-figure-b-requires c = omega (arith, c.figure-a.ensures.0)
-
-pub put-requires : goal.put-requires
-put-requires c =
-    omega (arith, c.figure-a.ensures.0, c.figure-b.ensures.0)
 
 pub returns : goal.returns
 unfolding figures
 returns c =
-    (omega (arith, c.figure-a.ensures.0, c.figure-b.ensures.0, c.put.ensures.place), then (then c.figure-a.ensures.1 c.figure-b.ensures.1) c.put.ensures)
+    (omega arith, rw c.written.ensures (begun c.new-w.ensures.front (then (then c.figure.ensures.part c.figure-2.ensures.part) c.put.ensures.part)))

@@ -5,4 +5,4 @@ use Rattle.read_step.proofs.last.Goals as goal
 pub returns : goal.returns
 returns c =
     let s = c.args in
-    rw (← front s.held s.input.now c.lesser-to.ensures.0) c.finish.ensures
+    rw (← front s.held s.input.now c.min-to.ensures) c.finish.ensures

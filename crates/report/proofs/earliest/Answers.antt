@@ -1,17 +1,15 @@
 -- `report::earliest` meets its contract.
-use mathlib.Core.Path.{sym}
-use borrow.Author.Tests.{eq-eqb, ne_eqb}
 use Rattle.report.specs.Report.{earliest}
+use Rattle.report.specs.Laws.{not_earlier}
 use Rattle.report.proofs.earliest.Goals as goal
 
-pub returns-then-f-ne0 : goal.returns-then-f-ne0
+pub returns-in-None-Differs : goal.returns-in-None-Differs
 unfolding earliest
-returns-then-f-ne0 c = sym (rw (ne_eqb _ _ c.if-f-ne0.true))
+returns-in-None-Differs c = rw (c.in-None-Differs.is-0, c.in-None-Differs.is-1)
 
-pub returns-then-told-ne-DIFFERS : goal.returns-then-told-ne-DIFFERS
-unfolding earliest
-returns-then-told-ne-DIFFERS c = sym (rw (eq-eqb _ _ c.if-f-ne0.false, ne_eqb _ _ c.if-told-ne-DIFFERS.true))
+pub returns-in_default : goal.returns-in_default
+returns-in_default c = rw c.in_default.is-0 (not_earlier c.args.c c.in_default.not-Differs-1 c.args.n)
 
-pub returns : goal.returns
+pub returns-in_default-2 : goal.returns-in_default-2
 unfolding earliest
-returns c = sym (rw (eq-eqb _ _ c.if-f-ne0.false, eq-eqb _ _ c.if-told-ne-DIFFERS.false))
+returns-in_default-2 c = rw c.in_default.is-0

@@ -1,19 +1,15 @@
 -- `report::reached` meets its contract.
-use mathlib.Core.Path.{sym, ◌∙◌}
-use borrow.Author.Tests.{eq-eqb, ne_eqb}
 use Rattle.report.specs.Report.{reached}
+use Rattle.report.specs.Laws.{not_reached}
 use Rattle.report.proofs.reached.Goals as goal
 
-pub returns-then-not-computed : goal.returns-then-not-computed
+pub returns-in-Known : goal.returns-in-Known
 unfolding reached
-returns-then-not-computed c = sym (rw (sym c.computed.ensures ∙ c.if-not-computed.true))
+returns-in-Known c = rw (c.in-Known.is, c.begun-so_far.ensures)
 
-pub returns-then-s-eq0 : goal.returns-then-s-eq0
+pub returns-in-Differs : goal.returns-in-Differs
 unfolding reached
-returns-then-s-eq0 c =
-    sym (rw (sym c.computed.ensures ∙ c.if-not-computed.false, eq-eqb _ _ c.if-s-eq0.true, ← c.more.ensures))
+returns-in-Differs c = rw (c.in-Differs.is, c.one_more.ensures, c.begun-so_far.ensures)
 
-pub returns : goal.returns
-unfolding reached
-returns c =
-    sym (rw (sym c.computed.ensures ∙ c.if-not-computed.false, ne_eqb _ _ c.if-s-eq0.false, ← c.more-2.ensures))
+pub returns-in_default : goal.returns-in_default
+returns-in_default c = not_reached c.args.c c.in_default.not-Known c.in_default.not-Differs c.args.s c.args.n

@@ -13,6 +13,7 @@ use Rattle.synth_filter.specs.Fast.{whole_sum, next_sum, size_sum, Past, Halves}
 use Rattle.laws.specs.Range.{mag_abs}
 use Rattle.synth_filter.specs.FastLaws.{past_turn}
 use Rattle.synth_filter.specs.Pairs.{low_small, high_small, halves_raised, halves_high, halves_up, halves_low, low_end, high_end, half_less, small_fits, sampled}
+use Rattle.std.proofs.Common.{rules}
 use Rattle.synth_filter.proofs.first_of_two.Goals as goal
 use Rattle.synth_filter.proofs.first_of_two.Goals.{After-both_sums-sums, After-product, After-product-2, After-sar64-high, Start}
 
@@ -76,13 +77,18 @@ sum c =
     let g = c.args in
     to_z-of_z (overflow_sub-low-2 c) ∙ rw (low c.before.before.before.before, via w64 c.product-2.result c.product-2.type_inv, c.product-2.ensures.value, via w16 (at g.a.now 1) c.product-arg-2-1.given, newest c.before.before.before.before.before.before) (low_end _ _ _ _ _ _ (halves c.before.before.before.before.before))
 
-past : (c : After-both_sums-sums) → Past c.args.y.now c.args.n 0
-past c =
-    let g = c.args in
-    past_turn g.y.now g.n 0 1 refl c.both_sums-sums.ensures.past (rw c.requires.newest_value at c.ranges.newest.sfits)
-
 pub returns : goal.returns
-returns c = record { sampled = λ quiet. sampled c.args.a.now c.args.x c.args.y.now c.args.n (bounded c.before.before.before.before.before.before.before.before) (nat_abs-le c.args.x c.ranges.x.sfits) (past c.before.before.before.before.before.before.before) _ _ (sum c.before.before) ((c.rounded-s.ensures quiet).0, via w16 _ c.struct_told-1.given.0.1 ∙ (c.rounded-s.ensures quiet).1); sum_value = the_next c.before.before.before.before; sum_bound = rw (to_z-of_z (overflow_sub-sum c.before.before.before.before)) (next_size c.before.before.before.before); past = past c.before.before.before.before.before.before.before }
+returns c =
+    let s = c.before.before.before in
+    let t = s.before.before in
+    let e = c.in_ok-word.ensures in
+    let f : mag c.in_ok-word.word < 32768 = search rules in
+    let p = past_turn c.args.y.now c.args.n 0 1 refl c.both_sums-sums.ensures.past (rw c.requires.newest_value at c.ranges.newest.sfits) in
+    record { sampled = sampled c.args.a.now c.args.x c.args.y.now c.args.n c.requires.a_bound (nat_abs-le c.args.x c.ranges.x.sfits) p _ _ (sum s) (e.0, via w16 _ f ∙ e.1); sum_value = the_next t; sum_bound = rw (to_z-of_z (overflow_sub-sum t)) (next_size t); past = p }
+
+pub returns-in_err-word-clause-past : goal.returns-in_err-word-clause-past
+returns-in_err-word-clause-past c =
+    past_turn c.args.y.now c.args.n 0 1 refl c.both_sums-sums.ensures.past (rw c.requires.newest_value at c.ranges.newest.sfits)
 
 pub bounds-a-2 : goal.bounds-a-2
 bounds-a-2 c = omega arith

@@ -41,9 +41,6 @@ bounds-exc-from c = omega arith
 pub overflow_add-start : goal.overflow_add-start
 overflow_add-start c = omega arith
 
-pub overflow_add-word : goal.overflow_add-word
-overflow_add-word c = omega arith
-
 pub offset_bounds-speech-start : goal.offset_bounds-speech-start
 offset_bounds-speech-start c = omega arith
 

@@ -21,7 +21,7 @@ difference c =
     to_z-of_z (overflow_sub-sum c) ∙ rw (to_z-of_z c.ranges.sum, via w64 c.product.result c.product.type_inv, c.product.ensures.value, via w16 (at c.args.a.now 1) c.product-arg-1.given, to_z-of_z c.ranges.first)
 
 pub returns : goal.returns
-returns c quiet = subst (λ (l : ℤ). Rounded l c.rounded.result.word) (difference c.before) (c.rounded.ensures quiet)
+returns c = rw (difference c.before) at c.rounded.ensures
 
 pub bounds-a-1 : goal.bounds-a-1
 bounds-a-1 c = omega arith

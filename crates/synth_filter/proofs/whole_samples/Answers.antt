@@ -6,7 +6,7 @@ use mathlib.Core.List.{List}
 use native.Mathlib.Omega.{arith}
 use lib.IntN.{ℤ}
 use lib.ListN.{set}
-use lib.Signed.{nat_abs-le}
+use lib.Signed.{mag, nat_abs-le}
 use mir.Syntax.{w16, w64}
 use mir.Val.{to_z, of_z}
 use mir.Facts.{to_z-of_z}
@@ -17,7 +17,6 @@ use Rattle.synth_filter.specs.FastLaws.{reached_none}
 use Rattle.synth_filter.specs.Pairs.{small_fits, sampled_next, reached_turn}
 use Rattle.std.proofs.Common.{rules}
 use Rattle.synth_filter.proofs.whole_samples.Goals as goal
-use Rattle.synth_filter.proofs.whole_samples.Goals.{After-first_of_two-s, After-struct_told-in-loop-i-1, Else-size_sum-gt61439, Else-t}
 
 pub loop-i-init : goal.loop-i-init
 loop-i-init c =
@@ -25,20 +24,16 @@ loop-i-init c =
     let k : start + 0 - 1 ≡ start - 1 = omega arith in
     (search rules, (reached_none _ _ _ _, rw k (via w16 _ c.newest-1.given)))
 
-bounded : (c : Else-size_sum-gt61439) → size_sum c.args.a.now 10 ≤ 61439
-bounded c = omega (arith, c.size_sum.ensures, c.if-size_sum-gt61439.false)
-
-pub first_of_two-s-requires : goal.first_of_two-s-requires
-first_of_two-s-requires c =
-    record { b_value = c.pairs-b.ensures; a_bound = bounded c.before.before.before.before.before.before.before; newest_value = c.loop-i.invariant.1.1; n_le_speech_length = search rules; le_n = search rules }
+pub first_of_two-requires : goal.first_of_two-requires
+first_of_two-requires c =
+    record { b_value = c.pairs-b.ensures; a_bound = omega (arith, c.size_sum.ensures, c.if-size_sum-gt61439.false); newest_value = c.loop-i.invariant.1.1; n_le_speech_length = search rules; le_n = search rules }
 
 -- the sum of the second sample, read back
-kept_sum : (c : After-first_of_two-s) → to_z w64 (of_z w64 c.first_of_two-s.result.sum) ≡ c.first_of_two-s.result.sum
-kept_sum c = to_z-of_z (small_fits c.first_of_two-s.result.sum c.first_of_two-s.ensures.sum_bound)
+kept_sum : (z : ℤ) → mag z < 8589934592 → to_z w64 (of_z w64 z) ≡ z
+kept_sum z h = to_z-of_z (small_fits z h)
 
-pub second_of_two-t-requires : goal.second_of_two-t-requires
-second_of_two-t-requires c =
-    rw (kept_sum c.before.before.before.before) c.first_of_two-s.ensures.sum_bound
+pub second_of_two-requires : goal.second_of_two-requires
+second_of_two-requires c = rw (kept_sum c.in-Some.s.sum c.in-Some.ensures.sum_bound) c.in-Some.ensures.sum_bound
 
 -- the places of a turn, over plain numbers
 twice : (i : ℕ) → i + 1 + (i + 1) ≡ i + i + 1 + 1
@@ -56,48 +51,35 @@ next_start s i h = omega arith
 one_more : (i n : ℕ) → i < n → i + 1 ≤ n
 one_more i n h = omega arith
 
--- the places of the first of the two, and the speech when it is written
-abbrev source : After-struct_told-in-loop-i-1 → ℕ
-source c = c.exc_start-from.result + (c.loop-i.i + c.loop-i.i)
-
-abbrev place : After-struct_told-in-loop-i-1 → ℕ
-place c = c.speech_start-start.result + (c.loop-i.i + c.loop-i.i)
-
-abbrev written : After-struct_told-in-loop-i-1 → List ℤ
-written c = set c.loop-i.speech (place c) (to_z w16 (of_z w16 c.first_of_two-s.result.word))
-
-once : (c : After-struct_told-in-loop-i-1) → Reached c.args.second c.args.a.now c.args.exc.now c.args.speech.now (written c) false (c.loop-i.i + c.loop-i.i + 1)
-once c =
-    let n = c.loop-i.i + c.loop-i.i in
-    reached_turn _ _ _ _ n c.exc_start-from.ensures.value c.speech_start-start.ensures.value refl refl (via w16 _ c.first_of_two-arg-1.given) c.loop-i.invariant.1.0 (via w16 _ c.struct_told-1.given.0.1) (c.first_of_two-s.ensures.sampled c.if-s.false)
-
--- the second of the two
-next_sampled : (c : Else-t)
-    → Sampled c.args.a.now (to_z w16 (of_z w16 (at c.args.exc.now (source c.before.before.before + 1)))) (written c.before.before.before) (place c.before.before.before + 1) c.second_of_two-t.result.word
-next_sampled c =
-    let t = c.before.before.before in
-    let x = at c.args.exc.now (source t + 1) in
-    let u = c.first_of_two-arg-in-loop-i-1.given in
-    let v = c.second_of_two-arg-1.given in
-    let q = c.first_of_two-s.ensures in
-    sampled_next c.args.a.now (to_z w16 (of_z w16 x)) c.loop-i.speech (place t) _ (next_start _ c.loop-i.i c.speech_start-start.ensures.lower_bound) (bounded c.before.before.before.before.before.before.before.before.before.before.before.before.before.before) (rw (via w16 x u) (nat_abs-le x u)) q.past (nat_abs-le (at (written t) (place t)) v) _ _ _ _ (kept_sum t.before.before.before) q.sum_value (via w16 (at (written t) (place t)) v) (c.second_of_two-t.ensures c.if-t.false)
-
-pub returns-then-s : goal.returns-then-s
-returns-then-s c =
+pub returns-in_default : goal.returns-in_default
+returns-in_default c =
     let i = c.loop-i.invariant in
     record { upper_bound = omega (arith, i.0); reached = i.1.0 }
 
-pub returns-then-t : goal.returns-then-t
-returns-then-t c = record { upper_bound = search rules; reached = once c.before.before.before }
+pub returns-in_default-second_of_two : goal.returns-in_default-second_of_two
+returns-in_default-second_of_two c =
+    let n = c.loop-i.i + c.loop-i.i in
+    let f : mag c.in-Some.s.word < 32768 = search rules in
+    record { upper_bound = search rules; reached = reached_turn _ _ _ _ n c.exc_start-from.ensures.value c.speech_start-start.ensures.value refl refl (via w16 _ c.first_of_two-arg-1.given) c.loop-i.invariant.1.0 (via w16 _ f) c.in-Some.ensures.sampled }
 
 pub loop-i-preserved : goal.loop-i-preserved
 loop-i-preserved c =
-    let e = c.before.before in
-    let t = e.before.before.before in
-    let i = c.loop-i.i in (
+    let i = c.loop-i.i in
+    let n = i + i in
+    let k = c.speech_start-start.result + n in
+    let s = c.in-Some.s in
+    let f : mag s.word < 32768 = search rules in
+    let g : mag c.in-Some-second_of_two.next < 32768 = search rules in
+    let q = c.in-Some.ensures in
+    let w = set c.loop-i.speech k (to_z w16 (of_z w16 s.word)) in
+    let x = at c.args.exc.now (c.exc_start-from.result + n + 1) in
+    let u = c.first_of_two-arg-in-loop-i-1.given in
+    let v = c.second_of_two-arg-1.given in
+    let once = reached_turn _ _ _ _ n c.exc_start-from.ensures.value c.speech_start-start.ensures.value refl refl (via w16 _ c.first_of_two-arg-1.given) c.loop-i.invariant.1.0 (via w16 _ f) q.sampled in
+    let second = sampled_next c.args.a.now (to_z w16 (of_z w16 x)) c.loop-i.speech k _ (next_start _ i c.speech_start-start.ensures.lower_bound) (omega (arith, c.size_sum.ensures, c.if-size_sum-gt61439.false)) (rw (via w16 x u) (nat_abs-le x u)) q.past (nat_abs-le (at w k) v) _ _ _ _ (kept_sum s.sum q.sum_bound) q.sum_value (via w16 (at w k) v) c.in-Some-second_of_two.ensures in (
       one_more i 20 c.loop-i-test.true,
       (
-        rw (twice i) (reached_turn _ _ _ _ (i + i + 1) c.exc_start-from.ensures.value c.speech_start-start.ensures.value (beyond _ i) (beyond _ i) (via w16 _ c.first_of_two-arg-in-loop-i-1.given) (once t) (via w16 _ c.struct_told-in-loop-i-2-1.given.0.1) (next_sampled e)),
+        rw (twice i) (reached_turn _ _ _ _ (n + 1) c.exc_start-from.ensures.value c.speech_start-start.ensures.value (beyond _ i) (beyond _ i) (via w16 _ u) once (via w16 _ g) second),
         rw (last c.speech_start-start.result i) (via w16 _ c.newest-in-loop-i-1.given),
       ),
     )

@@ -1,16 +1,8 @@
--- `text::starts` meets its contract: a text that is shorter doesn't begin with the other.
-use mathlib.Core.Path.{sym}
-use native.Mathlib.Numerals.{unary_clauses}
-use native.Mathlib.Omega.{arith}
-use lib.ListN.{length, length-take}
-use Rattle.laws.specs.Bytes.{unlike}
+-- `text::starts` meets its contract: the front of the text is the other.
 use Rattle.text.specs.Text.{starts}
+use Rattle.text.specs.Laws.{equal_same'}
 use Rattle.text.proofs.starts.Goals as goal
-
-pub returns-then-text-with : goal.returns-then-text-with
-unfolding starts
-returns-then-text-with c = sym (unlike _ _ (λ e. omega (arith, length-take (length c.args.with.now) c.args.text.now)))
 
 pub returns : goal.returns
 unfolding starts
-returns c = simp unary_clauses at c.same.ensures
+returns c = equal_same' _ _ _ c.starts_with.ensures.value

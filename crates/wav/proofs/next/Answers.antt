@@ -2,7 +2,7 @@
 use mathlib.Core.Path.{sym, ◌∙◌}
 use borrow.Author.Tests.{lt-ltb, le-ltb}
 use Rattle.wav.specs.Wav.{next}
-use Rattle.std.proofs.Common.{rules}
+use Rattle.std.proofs.Common.{arith}
 use Rattle.wav.proofs.next.Goals as goal
 
 pub returns-then-bytes-at-lt8 : goal.returns-then-bytes-at-lt8
@@ -18,7 +18,7 @@ pub returns-then-named-2 : goal.returns-then-named-2
 unfolding next
 returns-then-named-2 c = (
   sym (rw (le-ltb _ _ c.if-bytes-at-lt8.false, sym c.named.ensures ∙ c.if-named.false, sym c.named-2.ensures ∙ c.if-named-2.true, ← c.field.ensures, ← c.behind-to.ensures.0)),
-  record { chunk = c.behind-to.ensures.1; form = search rules },
+  record { chunk = c.behind-to.ensures.1; form = omega arith },
 )
 
 pub returns : goal.returns

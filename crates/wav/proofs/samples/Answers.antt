@@ -1,29 +1,27 @@
 -- `wav::samples` meets its contract: each test picks its case of the definition, and a chunk that has a name has a whole head.
-use mathlib.Core.Path.{sym, ap, ◌∙◌}
+use mathlib.Core.Path.{sym, ◌∙◌}
 use native.Mathlib.Omega.{arith}
-use borrow.Author.Tests.{eq-eqb, ne_eqb}
-use Rattle.wav.specs.declared.Found.{Found}
-use Rattle.wav.specs.Wav.{wrong, samples}
+use Rattle.std.proofs.lemmas.Result.{err_from_is_err_and}
+use Rattle.wav.specs.Wav.{found, samples}
 use Rattle.wav.specs.Laws.{named_room}
 use Rattle.wav.proofs.samples.Goals as goal
 
 pub returns-then-not-named : goal.returns-then-not-named
-unfolding samples wrong
-returns-then-not-named c =
-    let e = c.named.ensures in
-    (c.wrong.ensures ∙ rw (sym e ∙ c.if-not-named.true), omega (arith, ap (λ (h : Found). h.from) c.wrong.ensures))
+unfolding samples
+returns-then-not-named c = (sym (rw (sym c.named.ensures ∙ c.if-not-named.true)), tt)
 
-pub returns-then-code-ne0 : goal.returns-then-code-ne0
-unfolding samples wrong
-returns-then-code-ne0 c =
-    (c.wrong-then-code-ne0.ensures ∙ sym (rw (sym c.named.ensures ∙ c.if-not-named.false, ← c.fault-code.ensures, ne_eqb _ _ c.if-code-ne0.true)), omega (arith, ap (λ (h : Found). h.from) c.wrong-then-code-ne0.ensures))
+pub returns-in_err-check_format : goal.returns-in_err-check_format
+unfolding samples found
+returns-in_err-check_format c =
+    let p = err_from_is_err_and c.from_residual.result c.from_residual.ensures.1 in
+    rw (p.1, p.2) (sym (rw (sym c.named.ensures ∙ c.if-not-named.false, ← c.in_err-check_format.ensures)), tt)
 
 pub field-requires : goal.field-requires
 field-requires c =
     omega (arith, named_room _ _ _ (sym c.named.ensures ∙ c.if-not-named.false))
 
 pub returns : goal.returns
-unfolding samples
+unfolding samples found
 returns c =
     let e = sym c.named.ensures ∙ c.if-not-named.false in
-    (sym (rw (e, ← c.fault-code.ensures, eq-eqb _ _ c.if-code-ne0.false, ← c.field.ensures)), omega (arith, named_room _ _ _ e))
+    (sym (rw (e, ← c.in_ok-check_format.ensures, ← c.field.ensures)), omega (arith, named_room _ _ _ e))

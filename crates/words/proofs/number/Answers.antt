@@ -7,7 +7,7 @@ use Rattle.words.specs.Laws.{room, fits, number_turn, number_none, number_end}
 use Rattle.words.proofs.number.Goals as goal
 
 pub loop-i-init : goal.loop-i-init
-loop-i-init c = (omega arith, pow_pos _, number_none c.args.bytes.now c.lesser-i.result (omega arith))
+loop-i-init c = (omega arith, pow_pos _, number_none c.args.bytes.now c.min-i.result (omega arith))
 
 pub overflow_mul-n : goal.overflow_mul-n
 overflow_mul-n c =
@@ -16,19 +16,19 @@ overflow_mul-n c =
     record { fits = fits m (l.i - 1) _ (omega arith) (omega (arith, room m l.i l.n 0 (omega arith) (omega arith) l.invariant.1 (omega arith))) }
 
 pub overflow_cast-n : goal.overflow_cast-n
-overflow_cast-n c = omega (arith, c.shared_slice_known-in-loop-i-1.given (c.loop-i.i - 1))
+overflow_cast-n c = omega (arith, c.type_inv.bytes (c.loop-i.i - 1))
 
 pub overflow_add-n : goal.overflow_add-n
 overflow_add-n c =
     let l = c.loop-i in
     let m = min 8 (length c.args.bytes.now) in
-    record { fits = fits m (l.i - 1) _ (omega arith) (room m l.i l.n _ (omega arith) (omega arith) l.invariant.1 (omega (arith, c.shared_slice_known-in-loop-i-1.given (l.i - 1)))) }
+    record { fits = fits m (l.i - 1) _ (omega arith) (room m l.i l.n _ (omega arith) (omega arith) l.invariant.1 (omega (arith, c.type_inv.bytes (l.i - 1)))) }
 
 pub loop-i-preserved : goal.loop-i-preserved
 loop-i-preserved c =
     let l = c.loop-i in (
       omega arith,
-      room (min 8 (length c.args.bytes.now)) l.i l.n _ (omega arith) (omega arith) l.invariant.1 (omega (arith, c.shared_slice_known-in-loop-i-1.given (l.i - 1))),
+      room (min 8 (length c.args.bytes.now)) l.i l.n _ (omega arith) (omega arith) l.invariant.1 (omega (arith, c.type_inv.bytes (l.i - 1))),
       number_turn c.args.bytes.now l.i _ (omega arith) (omega arith) l.invariant.2,
     )
 

@@ -7,6 +7,3 @@ use Rattle.words.proofs.number.Given as goal
 
 abbrev pub invariant-loop-i : goal.invariant-loop-i
 invariant-loop-i l = (l.i ≤ min 8 (length l.bytes)) × (l.n < 2 ^ (8 * (min 8 (length l.bytes) - l.i))) × (l.n ≡ number (drop l.i (take 8 l.bytes)))
-
-abbrev pub decreases-loop-i : goal.decreases-loop-i
-decreases-loop-i l = l.i

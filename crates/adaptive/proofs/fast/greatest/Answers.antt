@@ -9,14 +9,13 @@ use Rattle.laws.specs.Back.{via}
 use Rattle.adaptive.specs.FastLaws.{small_next}
 use Rattle.std.proofs.Common.{rules}
 use Rattle.adaptive.proofs.fast.greatest.Goals as goal
-use Rattle.adaptive.proofs.fast.greatest.Goals.{else-m-x, then-m-x}
 
 pub loop-j-preserved : goal.loop-j-preserved
 loop-j-preserved c =
     let a = c.args in
     let x = at a.exc.now (a.from + c.loop-j.j) in
-    let e : c.magnitude-x.result ≡ mag x = c.magnitude-x.ensures ∙ ap mag (via w16 x c.magnitude-arg-1.given) in
-    (search rules, small_next a.exc.now a.from c.loop-j.j c.loop-j.m c.if-m-x.m c.loop-j.invariant.1 (elim c.if-m-x.branch [ then-m-x w ↦ omega arith | else-m-x w ↦ omega arith ]) (elim c.if-m-x.branch [ then-m-x w ↦ omega (arith, e) | else-m-x w ↦ omega (arith, e) ]))
+    let e : c.magnitude.result ≡ mag x = c.magnitude.ensures ∙ ap mag (via w16 x c.magnitude-arg-1.given) in
+    (search rules, small_next a.exc.now a.from c.loop-j.j c.loop-j.m c.max-m.result c.loop-j.invariant.1 (omega arith) (omega (arith, e)))
 
 pub returns : goal.returns
 returns c = λ j h. c.loop-j.invariant.1 j (omega arith)

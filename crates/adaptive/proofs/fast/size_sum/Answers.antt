@@ -11,18 +11,18 @@ use Rattle.adaptive.specs.Fast.{size_sum}
 use Rattle.std.proofs.Common.{rules}
 use Rattle.adaptive.proofs.fast.size_sum.Goals as goal
 
-pub loop-j-init : goal.loop-j-init
+pub loop-x-init : goal.loop-x-init
 unfolding size_sum steps
-loop-j-init c = (search rules, (search rules, refl))
+loop-x-init c = (search rules, (search rules, refl))
 
-pub loop-j-preserved : goal.loop-j-preserved
+pub loop-x-preserved : goal.loop-x-preserved
 unfolding size_sum
-loop-j-preserved c =
-    let x = at c.args.c.now c.loop-j.j in
-    let e : c.magnitude.result ≡ mag x = c.magnitude.ensures ∙ ap mag (via w16 x c.magnitude-arg-1.given) in (
+loop-x-preserved c =
+    let x = at c.args.c.now c.loop-x.x-index in
+    let e : c.from.result ≡ mag x = c.from.ensures ∙ c.magnitude.ensures ∙ ap mag (via w16 x c.magnitude-arg-1.given) in (
       search rules,
-      (omega (arith, e, c.magnitude-arg-1.given), steps_turn _ _ _ _ _ c.loop-j.invariant.1.1 (ap (λ (m : ℕ). c.loop-j.s + (m + 1)) e)),
+      (omega (arith, e, c.magnitude-arg-1.given), steps_turn _ _ _ _ _ c.loop-x.invariant.1.1 (ap (λ (m : ℕ). c.loop-x.s + (m + 1)) e)),
     )
 
 pub returns : goal.returns
-returns c = c.loop-j.invariant.1.1 ∙ ap (size_sum _) (omega arith)
+returns c = c.loop-x.invariant.1.1 ∙ ap (size_sum _) (omega arith)

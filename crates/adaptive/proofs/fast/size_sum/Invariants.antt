@@ -4,8 +4,8 @@ use Prim.Native.Nat.{◌-◌, ◌*◌, ◌≤◌}
 use Rattle.adaptive.specs.Fast.{size_sum}
 use Rattle.adaptive.proofs.fast.size_sum.Given as goal
 
-abbrev pub invariant-loop-j : goal.invariant-loop-j
-invariant-loop-j l = (l.j ≤ 32) × ((l.s ≤ 32768 * l.j) × (l.s ≡ size_sum l.c l.j))
+abbrev pub invariant-loop-x : goal.invariant-loop-x
+invariant-loop-x l = (l.x-index ≤ 32) × ((l.s ≤ 32768 * l.x-index) × (l.s ≡ size_sum l.c l.x-index))
 
-abbrev pub decreases-loop-j : goal.decreases-loop-j
-decreases-loop-j l = 32 - l.j
+abbrev pub decreases-loop-x : goal.decreases-loop-x
+decreases-loop-x l = 32 - l.x-index

@@ -23,9 +23,6 @@ word-w-requires c =
 pub returns-then-w-gt16383 : goal.returns-then-w-gt16383
 returns-then-w-gt16383 c = (search rules, c.loop-n.invariant.1)
 
-pub returns-then-w-ltminus16384 : goal.returns-then-w-ltminus16384
-returns-then-w-ltminus16384 c = (search rules, c.loop-n.invariant.1)
-
 pub overflow_cast-exc : goal.overflow_cast-exc
 overflow_cast-exc c = fits_within 16383 tt c.if-w-gt16383.false c.if-w-ltminus16384.false
 
@@ -44,7 +41,7 @@ loop-n-preserved c =
     )
 
 pub returns : goal.returns
-returns c = (search rules, c.loop-n.invariant.1)
+returns c = let e : c.loop-n.n ≡ c.args.end = omega arith in (search rules, rw e at c.loop-n.invariant.1)
 
 pub loop-n-init : goal.loop-n-init
 loop-n-init c = (search rules, (c.requires.1.1.1, λ l e. e))

@@ -3,14 +3,14 @@ use Rattle.std.proofs.Common.{arith}
 use Rattle.job.specs.Laws.{aside_short, aside_done}
 use Rattle.job.proofs.names.aside.Goals as goal
 
-pub returns-then-out-lt4 : goal.returns-then-out-lt4
-returns-then-out-lt4 c = aside_short c.args.path.now c.args.out.now (omega arith)
+pub returns-then-out-lt4-clause-name : goal.returns-then-out-lt4-clause-name
+returns-then-out-lt4-clause-name c = aside_short c.args.path.now c.args.out.now (omega arith)
 
-pub returns-then-out-path : goal.returns-then-out-path
-returns-then-out-path c = aside_short c.args.path.now c.args.out.now (omega arith)
+pub returns-then-out-path-clause-name : goal.returns-then-out-path-clause-name
+returns-then-out-path-clause-name c = aside_short c.args.path.now c.args.out.now (omega arith)
 
-pub returns : goal.returns
-returns c =
+pub returns-clause-name : goal.returns-clause-name
+returns-clause-name c =
     let s = c.args in
     let k = c.copy-n in
     let m = c.copy-m in

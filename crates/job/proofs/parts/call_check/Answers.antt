@@ -1,12 +1,11 @@
--- `job::parts::call_check` meets its contract: each test decides a part of it.
-use Rattle.job.specs.PartLaws.{call_short, call_other, call_same}
+-- `job::parts::call_check` meets its contract: the tests are those of the definition.
+use Rattle.job.specs.Part.{call_check}
 use Rattle.job.proofs.parts.call_check.Goals as goal
 
-pub returns-then-a-ne0 : goal.returns-then-a-ne0
-returns-then-a-ne0 c = call_short _ _ c.if-a-ne0.true
+pub returns-then-same : goal.returns-then-same
+unfolding call_check
+returns-then-same c = rw c.if-same.true
 
-pub returns-then-a-p : goal.returns-then-a-p
-returns-then-a-p c = call_other _ _ c.if-a-ne0.false c.if-a-p.true
-
-pub returns : goal.returns
-returns c = call_same _ _ c.if-a-ne0.false c.if-a-p.false
+pub returns-else-same : goal.returns-else-same
+unfolding call_check
+returns-else-same c = rw c.if-same.false

@@ -3,4 +3,4 @@ use Rattle.job.specs.PartLaws.{again_is}
 use Rattle.job.proofs.parts.read_again.Goals as goal
 
 pub returns : goal.returns
-returns c = again_is _ c.args.bytes.now _ _ c.lesser-n.ensures.0 c.more-sum.ensures
+returns c = again_is _ c.args.bytes.now _ _ c.min-n.ensures c.more.ensures

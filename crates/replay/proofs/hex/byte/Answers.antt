@@ -4,8 +4,5 @@ use native.Mathlib.Omega.{arith}
 use lib.ListN.{get_or-eq_default}
 use Rattle.replay.proofs.hex.byte.Goals as goal
 
-pub returns-else-n-text : goal.returns-else-n-text
-returns-else-n-text c = sym (get_or-eq_default c.args.text.now 0 (omega arith))
-
 pub returns-else-at-text : goal.returns-else-at-text
 returns-else-at-text c = sym (get_or-eq_default c.args.text.now 0 (omega arith))

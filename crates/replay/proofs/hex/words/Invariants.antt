@@ -1,5 +1,5 @@
 -- `replay::hex::words` meets its contract: before turn n the first n words are done.
-use Prim.Native.Nat.{◌-◌, ◌≤◌}
+use Prim.Native.Nat.{◌≤◌}
 use mathlib.Core.Path.{◌≡◌}
 use lib.ListN.{length}
 use Rattle.laws.specs.Lists.{filled}
@@ -8,6 +8,3 @@ use Rattle.replay.proofs.hex.words.Given as goal
 
 abbrev pub invariant-loop-n : goal.invariant-loop-n
 invariant-loop-n l = (l.n ≤ length l.initial.words) × (length l.words ≡ length l.initial.words) × (l.words ≡ filled (word_at l.text) l.n l.initial.words)
-
-abbrev pub decreases-loop-n : goal.decreases-loop-n
-decreases-loop-n l = length l.initial.words - l.n

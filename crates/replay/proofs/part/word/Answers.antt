@@ -5,8 +5,5 @@ use lib.IntN.{pos}
 use lib.ListN.{get_or-eq_default}
 use Rattle.replay.proofs.part.word.Goals as goal
 
-pub returns-else-n-words : goal.returns-else-n-words
-returns-else-n-words c = sym (get_or-eq_default c.args.words.now (pos 0) (omega arith))
-
 pub returns-else-from-words : goal.returns-else-from-words
 returns-else-from-words c = sym (get_or-eq_default c.args.words.now (pos 0) (omega arith))

@@ -12,7 +12,7 @@ unfolding signed sign
 returns-then-z-lt0 c =
     let e = to_z-of_z c.ranges.z in (
       omega (arith, c.put-at.ensures.place, c.figure.ensures.0),
-      rw (rw e at c.if-z-lt0.true, ← c.size.ensures ∙ ap nat_abs e) (then c.put-at.ensures c.figure.ensures.1),
+      rw (rw e at c.if-z-lt0.true, ← c.unsigned_abs.ensures.value ∙ ap nat_abs e) (then c.put-at.ensures c.figure.ensures.1),
     )
 
 pub returns : goal.returns
@@ -20,5 +20,5 @@ unfolding signed sign
 returns c =
     let e = to_z-of_z c.ranges.z in (
       omega (arith, c.put-at.ensures.place, c.figure-2.ensures.0),
-      rw (rw e at c.if-z-lt0.false, ← c.size-2.ensures ∙ ap nat_abs e) (then c.put-at.ensures c.figure-2.ensures.1),
+      rw (rw e at c.if-z-lt0.false, ← c.unsigned_abs-2.ensures.value ∙ ap nat_abs e) (then c.put-at.ensures c.figure-2.ensures.1),
     )

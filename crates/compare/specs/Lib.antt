@@ -1,2 +1,0 @@
--- The definitions that the contracts of `compare` cite.
-pub mod Held

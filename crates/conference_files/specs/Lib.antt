@@ -1,2 +1,0 @@
--- The definitions that the contracts of `conference_files` cite.
-pub mod Held

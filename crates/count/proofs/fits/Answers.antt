@@ -1,7 +1,0 @@
--- `count::fits` meets its contract: the tests are those of the definition.
-use Rattle.count.specs.Count.{fits}
-use Rattle.count.proofs.fits.Goals as goal
-
-pub returns : goal.returns
-unfolding fits
-returns c = rw c.subframes.ensures

@@ -1,2 +1,0 @@
--- What the contracts of `delays_files` cite.
-pub mod Held

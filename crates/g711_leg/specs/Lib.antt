@@ -1,2 +1,0 @@
--- The definitions that the contracts of `g711_leg` cite.
-pub mod Held

@@ -1,6 +1,0 @@
--- `replay::tally::number` meets its contract.
-use mathlib.Core.Path.{◌∙◌}
-use Rattle.replay.proofs.tally.number.Goals as goal
-
-pub returns : goal.returns
-returns c = c.count.ensures ∙ rw c.number.ensures

@@ -1,5 +1,0 @@
--- `replay_frames::main` ends: each line leaves fewer that may follow.
-use Rattle.replay_frames.proofs.main.Given as goal
-
-abbrev pub decreases-loop-most : goal.decreases-loop-most
-decreases-loop-most l = l.most

@@ -1,9 +1,0 @@
--- Each turn leaves fewer that may follow.
-use Rattle.std.specs.Prelude.{⊤}
-use Rattle.replay_jobs.proofs.copies.add.Given as goal
-
-abbrev pub invariant-loop-left : goal.invariant-loop-left
-invariant-loop-left l = ⊤
-
-abbrev pub decreases-loop-left : goal.decreases-loop-left
-decreases-loop-left l = l.left

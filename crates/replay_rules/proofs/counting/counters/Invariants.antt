@@ -1,9 +1,0 @@
--- `replay_rules::counting::counters` is safe and ends: it reads seven counters.
-use Rattle.std.proofs.Common.{◌-◌, ◌≤◌}
-use Rattle.replay_rules.proofs.counting.counters.Given as goal
-
-abbrev pub invariant-loop-k : goal.invariant-loop-k
-invariant-loop-k l = (l.k ≤ 7) × (l.from ≤ 20)
-
-abbrev pub decreases-loop-k : goal.decreases-loop-k
-decreases-loop-k l = 7 - l.k

@@ -1,5 +1,0 @@
--- `state::read_speech` meets its contract: `block::words` fills the front, and the rest stays 0.
-use Rattle.state.proofs.read_speech.Goals as goal
-
-pub returns : goal.returns
-returns c = rw c.words.ensures
