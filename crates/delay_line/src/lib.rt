@@ -76,7 +76,7 @@ fn sum(a: u32, b: u32) -> u32
     a.saturating_add(b)
 }
 
-// `# rules 1 to 5: A B C D E`: how many delays each rule has. Five numbers and no struct: the form's definition has the same five.
+// `# rules 1 to 5: A B C D E`: how many delays each rule has.
 fn five(a: u32, b: u32, c: u32, d: u32, e: u32, out: &mut [u8; ROOM]) -> usize
     ensures { (result ≤ 256) × ((result ≡ length (five a b c d e)) × (out.new ≡ over (five a b c d e) out.old)) }
 {

@@ -41,7 +41,7 @@ impl Progress {
     }
 }
 
-// A line that is refused prints nothing. (delay_step has one like it: what both keep and print differs, and so do their definitions.)
+// A line that is refused prints nothing.
 fn stopped(p: Progress, code: u32) -> Stepped
     ensures { (result.job ≡ with_code p code) × (result.written ≡ 0) }
 {

@@ -65,7 +65,7 @@ fn is_printed(text: &[u8], samples: &[i16]) -> bool
 }
 
 // How many samples a line has, without its line feed; they are at the front of `samples`, and those behind them are as they were. 0, and nothing written, where it is no line of 1 to 80
-// samples: one of no samples, or a text that is not what is printed of the samples that its digits give. A count and no Option: 0 samples are what `leg` hands on.
+// samples: one of no samples, or a text that is not what is printed of the samples that its digits give.
 pub fn read(text: &[u8], samples: &mut [i16; 80]) -> usize
     ensures { Answer.answer result samples.new ≡ read text.now samples.old }
 {
