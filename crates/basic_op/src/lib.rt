@@ -136,7 +136,8 @@ pub fn sar64(x: i64, n: u32) -> i64
     x.unbounded_shr(n)
 }
 
-// Left shifts with saturation, for every n: past the width a number that is not 0 is beyond the range.
+// Left shifts with saturation, for every n: past the width a number that is not 0 is beyond the range. Two, as G.191 has two operators: one over both
+// widths would need a trait with the limits, the wider product and the saturation of each.
 fn shl_by(a: i16, n: u32) -> i16
     ensures { result ≡ sat16 (a *ℤ pos (2 ^ n)) }
 {
@@ -286,7 +287,7 @@ pub fn split_high_low(value: i32) -> Split
     }
 }
 
-// L_Comp: upper * 2^16 + lower * 2.
+// L_Comp: upper * 2^16 + lower * 2. Two words and no `Split`, here and below: gain has them of a logarithm too.
 pub fn join_high_low(upper: i16, lower: i16) -> i32
     ensures { result ≡ join_high_low upper lower }
 {

@@ -38,7 +38,7 @@ pub fn random_index(seed: i16) -> Drawn
     }
 }
 
-// The position of pulse k (equation (62), Table 7).
+// The position of pulse k (equation (62), Table 7): a case for each pulse, as the table has a row for each.
 fn position(index: u16, k: u32) -> usize
     ensures { result ≡ position index k }
 {

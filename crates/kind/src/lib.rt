@@ -4,7 +4,7 @@
 ghost use Rattle.std.specs.Prelude.{◌≡◌};
 ghost use Rattle.kind.specs.Kind.{known, payload_length};
 
-// Whether a number is a kind of frame.
+// Whether a number is a kind of frame. A kind is a number wherever an operation of 01 is lent one: C hands in any, and 5 refuses the others.
 pub fn known(kind: u32) -> bool
     ensures { result ≡ known kind }
 {

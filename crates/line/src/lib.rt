@@ -31,7 +31,7 @@ pub fn is_hex(text: &[u8]) -> bool
     text.len() % 2 == 0 && digits(text)
 }
 
-// What stands before the digits of a kind.
+// What stands before the digits of a kind: a case for each, as 01 has a form for each.
 fn opening(kind: u32) -> &'static [u8]
     ensures { result.now ≡ opening kind }
 {

@@ -4,7 +4,7 @@
 ghost use Rattle.std.specs.Prelude.{◌≡◌, ◌+◌, ◌≤◌, ◌++◌, length, take, drop};
 ghost use Rattle.octets.specs.Octets.{index_of, slice};
 
-// Writes `from` at the front of `to`; how many bytes it has.
+// Writes `from` at the front of `to`; how many bytes it has. That the bytes fit is asked, here and below, as std's slicing asks it (docs/DECISIONS.md, "Files and streams").
 pub fn copy(from: &[u8], to: &mut [u8]) -> usize
     requires { length from.now ≤ length to.old }
     ensures count { result ≡ length from.now }

@@ -48,7 +48,7 @@ pub fn known(n: u32) -> bool
     (1..=5).contains(&n)
 }
 
-// The rule with this number; a number that is no rule's gives the last.
+// The rule with this number; a number that is no rule's gives the last, so that this is no TryFrom.
 #[tactic(auto, unfolding(crate::specs::Rule::of_number))]
 pub fn of_number(n: u32) -> Rule
     ensures { result ≡ of_number n }
