@@ -194,15 +194,6 @@ pub taken : (n due : ℕ) (fs bytes : List ℕ) → Right n due bytes → write_
 unfolding write_call
 taken n due fs bytes r = rw (eq-eqb _ _ r.many, eq-eqb _ _ r.ten)
 
--- the fields count where as many as are due are lent
-pub by_due : (n due : ℕ) (bytes : List ℕ) {fs gs : List ℕ} → (n ≡ due → fs ≡ gs) → write_call n due fs bytes ≡ write_call n due gs bytes
-unfolding write_call
-by_due n due bytes {fs} {gs} h = by (eqb n due) refl
-  where
-    by : (p : Bool) → eqb n due ≡ p → cond p (cond (eqb (length bytes) 10) (packed fs bytes) (answer 6 bytes)) (answer 8 bytes) ≡ cond p (cond (eqb (length bytes) 10) (packed gs bytes) (answer 6 bytes)) (answer 8 bytes)
-    by true e = rw (h (eqb-true _ _ e))
-    by false e = refl
-
 -- ---- the fields that the code reads one by one
 
 pub fifteen : (l : List ℕ) → length l ≡ 15 → cells 15 0 l ≡ l

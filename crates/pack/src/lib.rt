@@ -4,7 +4,7 @@
 ghost use Rattle.std.specs.Prelude.{◌≡◌, [], ◌∷◌, ◌++◌, ◌+◌, ◌*◌, ◌^◌, ◌≤◌, ◌<◌, length, get_or, take, drop};
 ghost use Rattle.bitstream.specs.Fields.{bits, widths, cut, Answer};
 ghost use Rattle.refusal.specs.Refusal.{code};
-ghost use Rattle.pack.specs.Pack.{joined, fits, octets, parity_bit, packed, write_call, write_fields, write_fields_parity};
+ghost use Rattle.pack.specs.Pack.{joined, fits, octets, parity_bit, packed, write_fields, write_fields_parity};
 ghost use Rattle.pack.specs.Laws.{listed, cells, lengths};
 
 use bitstream::SpeechParams;
@@ -132,26 +132,13 @@ fn params(fields: &[u16], p0: u16, behind: usize) -> SpeechParams
     }
 }
 
-// Writes a frame where `due` fields are lent: with this P0, and those behind it from place `behind` on.
-fn write(
-    fields: &[u16],
-    due: usize,
-    p0: u16,
-    behind: usize,
-    bytes: &mut [u8],
-) -> Result<(), Refusal>
-    requires { behind ≤ 6 }
-    ensures { Answer.answer (code result) bytes.new ≡ write_call (length fields.now) due (cells 5 0 fields.now ++ (p0 ∷ cells 9 behind fields.now)) bytes.old }
-{
-    lengths(fields.len(), due, bytes.len())?;
-    packed(params(fields, p0, behind), bytes)
-}
-
-// Writes a frame from fifteen fields, in the order of their bits. Refusals 8, 6, 15.
+// Writes a frame from fifteen fields, in the order of their bits. Refusals 8, 6, 15. The lengths are tested before a field is read, here and below, so
+// that a list of another length is never read: one function for both, to which P0 is handed, would read it first.
 pub fn write_fields(fields: &[u16], bytes: &mut [u8]) -> Result<(), Refusal>
     ensures { Answer.answer (code result) bytes.new ≡ write_fields fields.now bytes.old }
 {
-    write(fields, 15, field(fields, 5), 6, bytes)
+    lengths(fields.len(), 15, bytes.len())?;
+    packed(params(fields, field(fields, 5), 6), bytes)
 }
 
 // Clause 3.7.2: the P0 with which P1 passes parity.
@@ -165,5 +152,6 @@ fn parity_bit(p1: u16) -> u16
 pub fn write_fields_parity(fields: &[u16], bytes: &mut [u8]) -> Result<(), Refusal>
     ensures { Answer.answer (code result) bytes.new ≡ write_fields_parity fields.now bytes.old }
 {
-    write(fields, 14, parity_bit(field(fields, 4)), 5, bytes)
+    lengths(fields.len(), 14, bytes.len())?;
+    packed(params(fields, parity_bit(field(fields, 4)), 5), bytes)
 }
