@@ -1,4 +1,4 @@
-// Why an operation is refused (01, "Operations and their refusals", and the change requests): one name for each number of the list. The Rust library has the same names.
+// Why an operation is refused (01, "Operations and their refusals", and the change requests): one name for each number of the list. The Rust library has those of its calls under the same names.
 #![tactic(auto)]
 
 ghost use Rattle.std.specs.Prelude.{◌≡◌};
