@@ -26,12 +26,11 @@ const OUT: usize = 65536;
 
 // ---- the two files
 
-// A file that is read through N bytes: its name, its bytes at hand, and whether they are too few to tell what follows.
+// A file that is read through N bytes, which are lent to it: its name, its bytes at hand, and whether they are too few to tell what follows.
 #[derive(Drop)]
 struct Reader<'a, const N: usize> {
     file: Input,
     name: &'a [u8],
-    bytes: [u8; N],
     source: Source,
     lacks: bool,
     ghost within: { Inside source N },
@@ -39,17 +38,17 @@ struct Reader<'a, const N: usize> {
 
 impl<'a, const N: usize> Reader<'a, N> {
     // The bytes at hand.
-    fn at_hand(&self) -> &[u8]
+    fn at_hand<'b>(&self, bytes: &'b [u8; N]) -> &'b [u8]
         ensures { length result.now ≡ self.now.source.to - self.now.source.from }
     {
-        let view: &[u8] = &self.bytes;
+        let view: &'b [u8] = bytes;
         &view[self.source.from..self.source.to]
     }
 
     // A read, where bytes are lacking.
-    fn fill(&mut self, rt: &HostRuntime) -> Result<(), Told> {
+    fn fill(&mut self, rt: &HostRuntime, bytes: &mut [u8; N]) -> Result<(), Told> {
         if self.lacks {
-            self.source = source::fill(rt, &self.file, self.name, self.source, &mut self.bytes);
+            self.source = source::fill(rt, &self.file, self.name, self.source, bytes);
         }
         if self.source.good { Ok(()) } else { Err(Told) }
     }
@@ -129,19 +128,19 @@ fn written(
 }
 
 // What a call has at hand, and what a file of far samples has.
-fn line_at(call: &Reader<CALL>) -> AtHand {
-    compare_turn::call_at(call.at_hand(), call.source.ended)
+fn line_at(call: &Reader<CALL>, bytes: &[u8; CALL]) -> AtHand {
+    compare_turn::call_at(call.at_hand(bytes), call.source.ended)
 }
 
-fn frame_at(form: Form, far: &Reader<FAR>) -> AtHand {
-    compare_turn::far_at(form as u32, far.at_hand(), far.source.ended)
+fn frame_at(form: Form, far: &Reader<FAR>, bytes: &[u8; FAR]) -> AtHand {
+    compare_turn::far_at(form as u32, far.at_hand(bytes), far.source.ended)
 }
 
 impl<'a> Comparison<'a> {
     // What follows, by what is left of both files.
-    fn decide(&mut self) {
-        let line = line_at(&self.call);
-        let frame = frame_at(self.form, &self.far);
+    fn decide(&mut self, call: &[u8; CALL], far: &[u8; FAR]) {
+        let line = line_at(&self.call, call);
+        let frame = frame_at(self.form, &self.far, far);
         self.call.wait(line == AtHand::Wait);
         self.far.wait(frame == AtHand::Wait);
         self.next = compare_turn::next(line as u32, frame as u32);
@@ -153,18 +152,20 @@ impl<'a> Comparison<'a> {
         rt: &HostRuntime,
         t: &[i16; 1880],
         m: &mut [i16; COMPARE_LENGTH],
+        call: &mut [u8; CALL],
+        far: &mut [u8; FAR],
         out: &mut [u8],
         pcm: &mut [u8],
     ) -> Result<(), Told> {
-        let call = self.call.fill(rt);
-        let far = self.far.fill(rt);
+        let call_read = self.call.fill(rt, call);
+        let far_read = self.far.fill(rt, far);
         let taken = compare_turn::turn(
             t,
             m,
             self.at,
             self.form as u32,
-            self.call.at_hand(),
-            self.far.at_hand(),
+            self.call.at_hand(call),
+            self.far.at_hand(far),
             self.samples.is_some(),
             out,
             pcm,
@@ -173,15 +174,15 @@ impl<'a> Comparison<'a> {
         self.at = taken.at;
         self.call.take(taken.line);
         self.far.take(taken.frame);
-        self.decide();
-        call?;
-        far?;
+        self.decide(call, far);
+        call_read?;
+        far_read?;
         told
     }
 
     // Whether a further turn follows.
     fn goes_on(&self) -> bool {
-        self.at.refused.is_none() && matches!(self.next, Follows::Go | Follows::Read)
+        self.at.code == 0 && matches!(self.next, Follows::Go | Follows::Read)
     }
 
     // All turns. Each but the last takes bytes of a file, of which a call's longest line and its most frames limit the number.
@@ -190,11 +191,13 @@ impl<'a> Comparison<'a> {
         rt: &HostRuntime,
         t: &[i16; 1880],
         m: &mut [i16; COMPARE_LENGTH],
+        far: &mut [u8; FAR],
     ) -> Result<(), Told> {
+        let mut call = [0u8; CALL];
         let mut out = [0u8; OUT];
         let mut pcm = [0u8; OUT];
         for _ in 0..u32::MAX {
-            self.turn(rt, t, m, &mut out, &mut pcm)?;
+            self.turn(rt, t, m, &mut call, far, &mut out, &mut pcm)?;
             if !self.goes_on() {
                 break;
             }
@@ -229,11 +232,12 @@ fn summary(rt: &HostRuntime, at: Standing, next: Follows) -> Result<(), Told> {
     Ok(())
 }
 
-// The refusal that ended a comparison, if one did; that of a line's form for one that has no end.
-fn refusal(at: Standing, next: Follows) -> Option<Refusal> {
-    match next {
-        Follows::Refuse => at.refused.or(Some(Refusal::LineForm)),
-        _ => at.refused,
+// The number of the refusal that ended a comparison, if one did; that of a line's form for one that has no end.
+fn refusal(at: Standing, next: Follows) -> Option<u32> {
+    match (at.code, next) {
+        (0, Follows::Refuse) => Some(Refusal::LineForm.number()),
+        (0, _) => None,
+        (code, _) => Some(code),
     }
 }
 
@@ -251,8 +255,8 @@ fn stretch(rt: &HostRuntime, at: Standing, last: u32) -> Result<(), Told> {
 fn finish(rt: &HostRuntime, at: Standing, next: Follows) -> Result<(), Told> {
     let frames = at.tally.counts.frames;
     let told = stretch(rt, at, frames);
-    if let Some(r) = refusal(at, next) {
-        files::print_refused(rt, r.number(), line_step::one_more(frames));
+    if let Some(code) = refusal(at, next) {
+        files::print_refused(rt, code, line_step::one_more(frames));
         return told;
     }
     told?;
@@ -274,9 +278,9 @@ fn opened<'a>(
     call_name: &'a [u8],
     far_name: &'a [u8],
     samples: Option<&[u8]>,
+    bytes: &mut [u8; FAR],
 ) -> Result<Comparison<'a>, Told> {
-    let mut bytes = [0u8; FAR];
-    let n = far.read_full(&mut bytes);
+    let n = far.read_full(bytes);
     let b = first(rt, far_name, &bytes[..n]);
     if !b.source.good {
         return Err(Told);
@@ -289,14 +293,12 @@ fn opened<'a>(
         call: Reader {
             file: call,
             name: call_name,
-            bytes: [0; CALL],
             source: source::unread(),
             lacks: true,
         },
         far: Reader {
             file: far,
             name: far_name,
-            bytes,
             source: b.source,
             lacks: false,
         },
@@ -322,8 +324,9 @@ fn compare(
     let mut m = [0i16; COMPARE_LENGTH];
     // The tables were checked, and the memory is of its length.
     let _ = compare_step::begin(t, &mut m);
-    let mut c = opened(rt, call, far, call_name, far_name, samples)?;
-    c.run(rt, t, &mut m)?;
+    let mut bytes = [0u8; FAR];
+    let mut c = opened(rt, call, far, call_name, far_name, samples, &mut bytes)?;
+    c.run(rt, t, &mut m, &mut bytes)?;
     finish(rt, c.at, c.next)
 }
 

@@ -14,7 +14,7 @@ use Rattle.compare_turn.specs.declared.Taken.{Taken}
 
 -- before the first frame
 unfoldable pub start : Standing
-start = record { refused = None; tally = none; stretch = None; first = None }
+start = record { code = 0; tally = none; stretch = None; first = None }
 
 -- no more is taken than the call and the far file have at hand, and no more is printed than there is room for
 pub record Within (call far : List ℕ) (out pcm : ℕ) (r : Taken) : Type 0 where

@@ -58,10 +58,11 @@ pub enum Follows {
     Done,
 }
 
-// How far a comparison is: the refusal that ended it, if one did; and what was counted.
+// How far a comparison is: 0, or the number of the refusal that ended it; and what was counted.
+// The code is a number and no Option, as that of `Progress`: `turn`, which README names, takes any, and one that no refusal has ends a comparison too.
 #[derive(Clone, Copy)]
 pub struct Standing {
-    pub refused: Option<Refusal>,
+    pub code: u32,
     pub tally: Tally,
     pub stretch: Option<Stretch>,
     pub first: Option<First>,
@@ -90,7 +91,7 @@ pub fn start() -> Standing
     ensures { result ≡ start }
 {
     Standing {
-        refused: None,
+        code: 0,
         tally: Tally::none(),
         stretch: None,
         first: None,
@@ -103,7 +104,7 @@ fn stopped(at: Standing, r: Refusal) -> Stepped
 {
     Stepped {
         at: Standing {
-            refused: Some(r),
+            code: r.number(),
             ..at
         },
         written: 0,
@@ -115,7 +116,7 @@ fn stopped(at: Standing, r: Refusal) -> Stepped
 fn counted(from: Standing, counts: Counts, c: Class) -> Standing {
     let n = counts.frames;
     Standing {
-        refused: None,
+        code: 0,
         tally: from.tally.add(counts, c),
         stretch: report::reached(from.stretch, n, c),
         first: report::earliest(from.first, n, c),
@@ -375,7 +376,7 @@ fn more(
     if pcm.len() - all.printed < FRAME_ROOM {
         return all;
     }
-    if all.at.refused.is_some() {
+    if all.at.code != 0 {
         return all;
     }
     behind(t, m, all, form, call, far, wanted, out, pcm)

@@ -12,17 +12,16 @@ pub(crate) const FRAMES: usize = 100;
 
 const BYTES: usize = 2 * FRAME;
 
-const PART: usize = FRAMES * BYTES;
+pub(crate) const PART: usize = FRAMES * BYTES;
 
 // As many frames as a WAV file can have: wav::MOST / 160.
 pub(crate) const MOST: u32 = 26843545;
 
-// What a leg heard: its file, and its frames that are not written yet.
+// What a leg heard: its file. Its frames that are not written yet are lent to it, so that they are never moved with it.
 #[derive(Drop)]
 pub(crate) struct Heard {
     name: Name,
     file: File,
-    held: [u8; PART],
 }
 
 impl Heard {
@@ -50,16 +49,12 @@ impl Heard {
     {
         let name = paths::heard(names, k);
         let file = files::or_tell(rt, name.as_bytes(), files::create(rt, name.as_bytes()))?;
-        Ok(Heard {
-            name,
-            file,
-            held: [0; PART],
-        })
+        Ok(Heard { name, file })
     }
 
     // Closes the file and removes it.
     fn remove(self, rt: &HostRuntime) {
-        let Heard { name, file, .. } = self;
+        let Heard { name, file } = self;
         drop(file);
         let name = name.as_bytes();
         let _ = files::or_tell(rt, name, files::remove(rt, name));
@@ -76,20 +71,11 @@ impl Heard {
         }
     }
 
-    // A frame behind so many others.
-    fn hold(&mut self, behind: usize, frame: &[i16])
-        requires { behind < 100 }
-    {
-        let at = behind * BYTES;
-        words::to_bytes(frame, &mut self.held[at..at + BYTES]);
-    }
-
-    // Writes so many frames.
-    fn write(&self, rt: &HostRuntime, frames: usize) -> Result<(), Told>
+    // Writes so many frames of those held.
+    fn write(&self, rt: &HostRuntime, held: &[u8; PART], frames: usize) -> Result<(), Told>
         requires { frames ≤ 100 }
     {
-        let view: &[u8] = &self.held;
-        self.put(rt, &view[..frames * BYTES])
+        self.put(rt, &held[..frames * BYTES])
     }
 
     // The header, now that the length is known.
@@ -123,36 +109,40 @@ pub(crate) fn make(
     Ok(())
 }
 
+// A frame is held behind so many others.
+fn hold(behind: usize, frame: &[i16], held: &mut [u8; PART])
+    requires { (behind < 100) × (length frame.now ≡ 80) }
+{
+    let at = behind * BYTES;
+    words::to_bytes(frame, &mut held[at..at + BYTES]);
+}
+
 // The frame of the first n legs is mixed, and what each heard is held behind so many other frames.
-pub(crate) fn add(
-    n: usize,
-    behind: usize,
-    samples: &[i16; SAMPLES],
-    outs: &mut [Option<Heard>; LEGS],
-)
+pub(crate) fn add(n: usize, behind: usize, samples: &[i16; SAMPLES], held: &mut [[u8; PART]; LEGS])
     requires { (n ≤ 8) × (behind < 100) }
 {
     let mut heard = [0i16; SAMPLES];
     let end = n * FRAME;
     // A conference has 1 to 8 legs, so that nothing is refused.
     let _ = mix::mix(&samples[..end], &mut heard[..end]);
-    for (out, frame) in outs.iter_mut().zip(heard.chunks_exact(FRAME)) {
-        if let Some(out) = out {
-            out.hold(behind, frame);
-        }
+    for k in 0..n {
+        hold(behind, &heard[k * FRAME..(k + 1) * FRAME], &mut held[k]);
     }
 }
 
-// Writes so many frames of each leg.
+// Writes so many frames of each leg, of those held.
 pub(crate) fn write_all(
     rt: &HostRuntime,
     outs: &[Option<Heard>; LEGS],
+    held: &[[u8; PART]; LEGS],
     frames: usize,
 ) -> Result<(), Told>
     requires { frames ≤ 100 }
 {
-    for out in outs.iter().flatten() {
-        out.write(rt, frames)?;
+    for (out, held) in outs.iter().zip(held) {
+        if let Some(out) = out {
+            out.write(rt, held, frames)?;
+        }
     }
     Ok(())
 }
@@ -180,8 +170,10 @@ pub(crate) fn keep_all(rt: &HostRuntime, outs: &[Option<Heard>; LEGS]) -> Result
 }
 
 // Removes those that were made.
-pub(crate) fn remove_all(rt: &HostRuntime, outs: [Option<Heard>; LEGS]) {
-    for out in outs.into_iter().flatten() {
-        out.remove(rt);
+pub(crate) fn remove_all(rt: &HostRuntime, outs: &mut [Option<Heard>; LEGS]) {
+    for out in outs.iter_mut() {
+        if let Some(out) = out.take() {
+            out.remove(rt);
+        }
     }
 }

@@ -1,5 +1,5 @@
 // The legs of a conference: what each is by its first bytes, and its next frame.
-ghost use Rattle.std.specs.Prelude.{◌≤◌, ◌<◌, length, IfOk};
+ghost use Rattle.std.specs.Prelude.{◌≡◌, ◌≤◌, ◌<◌, length, IfOk};
 ghost use Rattle.source.specs.Source.{Inside};
 
 use crate::{FRAME, LEGS, SAMPLES, paths};
@@ -209,14 +209,13 @@ fn told(
     })
 }
 
-// A leg: its number, its name and its file, what its bytes are, those at hand, what may follow, and the lines and the samples of a printed one.
+// A leg: its number, its name and its file, what its bytes are, those at hand, what may follow, and the lines and the samples of a printed one. Its buffer is lent to it, so that it is never moved with it.
 #[derive(Drop)]
 pub(crate) struct Leg<'a> {
     number: u64,
     name: &'a [u8],
     file: Input,
     form: Form,
-    input: [u8; ROOM],
     source: Source,
     next: Next,
     lines: u32,
@@ -225,7 +224,12 @@ pub(crate) struct Leg<'a> {
 }
 
 // Leg k, open, with its first bytes.
-fn opened<'a>(rt: &HostRuntime, names: &'a [u8], k: usize) -> Result<Leg<'a>, Told>
+fn opened<'a>(
+    rt: &HostRuntime,
+    names: &'a [u8],
+    k: usize,
+    input: &mut [u8; ROOM],
+) -> Result<Leg<'a>, Told>
     requires { k < 8 }
 {
     let word = parted(paths::word(names, k + 1));
@@ -234,15 +238,13 @@ fn opened<'a>(rt: &HostRuntime, names: &'a [u8], k: usize) -> Result<Leg<'a>, To
         return Err(Told);
     }
     let file = files::opened(rt, word.name)?;
-    let mut input = [0u8; ROOM];
-    let n = file.read_full(&mut input);
-    let b = told(rt, &file, word, &mut input, n)?;
+    let n = file.read_full(input);
+    let b = told(rt, &file, word, input, n)?;
     Ok(Leg {
         number: k as u64 + 1,
         name: word.name,
         file,
         form: b.form,
-        input,
         source: b.source,
         next: Next::Any,
         lines: 0,
@@ -256,11 +258,12 @@ pub(crate) fn begin<'a>(
     names: &'a [u8],
     n: usize,
     legs: &mut [Option<Leg<'a>>; LEGS],
+    input: &mut [[u8; ROOM]; LEGS],
 ) -> Result<(), Told>
     requires { n ≤ 8 }
 {
     for k in 0..n {
-        legs[k] = Some(opened(rt, names, k)?);
+        legs[k] = Some(opened(rt, names, k, &mut input[k])?);
     }
     Ok(())
 }
@@ -316,8 +319,8 @@ impl<'a> Leg<'a> {
     }
 
     // A read; whether it could be done.
-    fn read(&mut self, rt: &HostRuntime) -> bool {
-        self.source = source::fill(rt, &self.file, self.name, self.source, &mut self.input);
+    fn read(&mut self, rt: &HostRuntime, input: &mut [u8; ROOM]) -> bool {
+        self.source = source::fill(rt, &self.file, self.name, self.source, input);
         if !self.source.good {
             self.next = Next::Failed;
         }
@@ -325,12 +328,17 @@ impl<'a> Leg<'a> {
     }
 
     // The line of a printed leg that ends before a place. Whether a turn is needed before the next frame is there.
-    fn take(&mut self, rt: &HostRuntime, end: usize, frame: &mut [i16; FRAME]) -> bool
+    fn take(
+        &mut self,
+        rt: &HostRuntime,
+        end: usize,
+        input: &[u8; ROOM],
+        frame: &mut [i16; FRAME],
+    ) -> bool
         requires { (self.old.source.from ≤ end) × (end < self.old.source.to) }
     {
         let s = self.source;
         let from = s.from;
-        let input: &[u8] = &self.input;
         let line = leg_frame::line(self.samples, &input[from..end], frame);
         self.next = self.decided(rt, behind_line(self.next, line));
         self.source = source::used(s, end + 1 - from);
@@ -340,22 +348,29 @@ impl<'a> Leg<'a> {
     }
 
     // One turn of a printed leg: its next line, or a read where there is no whole one.
-    fn printed(&mut self, rt: &HostRuntime, frame: &mut [i16; FRAME]) -> bool {
+    fn printed(
+        &mut self,
+        rt: &HostRuntime,
+        input: &mut [u8; ROOM],
+        frame: &mut [i16; FRAME],
+    ) -> bool {
         let s = self.source;
-        let end = octets::find(&self.input, s.from, s.to, 10);
+        let end = octets::find(input, s.from, s.to, 10);
         if end < s.to {
-            return self.take(rt, end, frame);
+            return self.take(rt, end, input, frame);
         }
         let left = s.to - s.from;
         if !s.ended && left < ROOM {
-            return self.read(rt);
+            return self.read(rt, input);
         }
         self.next = self.decided(rt, behind_last(self.next, left, s.ended));
         false
     }
 
-    // The end of a leg of bytes or words.
-    fn end(&mut self, rt: &HostRuntime) {
+    // The end of a leg of bytes or words. What is at hand stays.
+    fn end(&mut self, rt: &HostRuntime)
+        ensures { self.new.source ≡ self.old.source }
+    {
         if source::cut(self.source) {
             files::say(
                 rt,
@@ -367,14 +382,18 @@ impl<'a> Leg<'a> {
     }
 
     // One turn of another leg: its next samples, or a read where there may be fewer at hand than a frame has.
-    fn sampled(&mut self, rt: &HostRuntime, frame: &mut [i16; FRAME]) -> bool {
+    fn sampled(
+        &mut self,
+        rt: &HostRuntime,
+        input: &mut [u8; ROOM],
+        frame: &mut [i16; FRAME],
+    ) -> bool {
         let s = self.source;
         let from = s.from;
         let to = s.to;
         if to - from < NEEDED && !s.ended {
-            return self.read(rt);
+            return self.read(rt, input);
         }
-        let input: &[u8] = &self.input;
         let n = leg_frame::samples(self.form.number(), &input[from..to], frame);
         if n == 0 {
             self.end(rt);
@@ -385,20 +404,20 @@ impl<'a> Leg<'a> {
     }
 
     // One turn.
-    fn turn(&mut self, rt: &HostRuntime, frame: &mut [i16; FRAME]) -> bool {
+    fn turn(&mut self, rt: &HostRuntime, input: &mut [u8; ROOM], frame: &mut [i16; FRAME]) -> bool {
         if self.form == Form::Printed {
-            return self.printed(rt, frame);
+            return self.printed(rt, input, frame);
         }
-        self.sampled(rt, frame)
+        self.sampled(rt, input, frame)
     }
 
     // Its turns up to its next frame, or to where there is none: silence where it has ended.
-    fn frame(&mut self, rt: &HostRuntime, frame: &mut [i16; FRAME]) {
+    fn frame(&mut self, rt: &HostRuntime, input: &mut [u8; ROOM], frame: &mut [i16; FRAME]) {
         if self.next == Next::Done {
             return;
         }
         for _ in 0..u64::MAX {
-            if !self.turn(rt, frame) {
+            if !self.turn(rt, input, frame) {
                 break;
             }
         }
@@ -409,12 +428,13 @@ impl<'a> Leg<'a> {
 pub(crate) fn frames(
     rt: &HostRuntime,
     legs: &mut [Option<Leg>; LEGS],
+    input: &mut [[u8; ROOM]; LEGS],
     samples: &mut [i16; SAMPLES],
 ) {
-    for (k, leg) in legs.iter_mut().enumerate() {
+    for (k, (leg, input)) in legs.iter_mut().zip(input.iter_mut()).enumerate() {
         if let Some(leg) = leg {
             let mut one = [0i16; FRAME];
-            leg.frame(rt, &mut one);
+            leg.frame(rt, input, &mut one);
             samples[k * FRAME..(k + 1) * FRAME].copy_from_slice(&one);
         }
     }

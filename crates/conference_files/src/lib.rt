@@ -9,8 +9,9 @@ mod inputs;
 mod paths;
 
 use files::Told;
-use heard::Heard;
+use heard::{Heard, PART};
 use inputs::{Leg, Standing};
+use source::ROOM;
 use std::fmt::InlineText;
 
 // The most legs, the samples of a frame, and of the frames of all legs.
@@ -47,8 +48,9 @@ impl Place {
         &mut self,
         rt: &HostRuntime,
         n: usize,
-        outs: &mut [Option<Heard>; LEGS],
+        outs: &[Option<Heard>; LEGS],
         samples: &[i16; SAMPLES],
+        held: &mut [[u8; PART]; LEGS],
     ) -> Result<(), Told>
         requires { n ≤ 8 }
     {
@@ -60,16 +62,16 @@ impl Place {
             );
             return Err(Told);
         }
-        heard::add(n, self.held, samples, outs);
+        heard::add(n, self.held, samples, held);
         self.frames += 1;
         tell_progress(rt, self.frames);
-        let held = self.held + 1;
-        if held < heard::FRAMES {
-            self.held = held;
+        let behind = self.held + 1;
+        if behind < heard::FRAMES {
+            self.held = behind;
             return Ok(());
         }
         self.held = 0;
-        heard::write_all(rt, outs, held)
+        heard::write_all(rt, outs, held, behind)
     }
 }
 
@@ -78,22 +80,24 @@ fn run(
     rt: &HostRuntime,
     n: usize,
     legs: &mut [Option<Leg>; LEGS],
-    outs: &mut [Option<Heard>; LEGS],
+    input: &mut [[u8; ROOM]; LEGS],
+    outs: &[Option<Heard>; LEGS],
 ) -> Result<u32, Told>
     requires { n ≤ 8 }
     ensures { IfOk result (λ frames. frames ≤ 26843545) }
 {
     let mut samples = [0i16; SAMPLES];
+    let mut held = [[0u8; PART]; LEGS];
     let mut p = Place { frames: 0, held: 0 };
     for _ in 0..u64::MAX {
-        inputs::frames(rt, legs, &mut samples);
+        inputs::frames(rt, legs, input, &mut samples);
         match inputs::all_of(legs) {
             Standing::Failed => return Err(Told),
             Standing::Done => break,
-            Standing::Going => p.add(rt, n, outs, &samples)?,
+            Standing::Going => p.add(rt, n, outs, &samples, &mut held)?,
         }
     }
-    heard::write_all(rt, outs, p.held)?;
+    heard::write_all(rt, outs, &held, p.held)?;
     Ok(p.frames)
 }
 
@@ -114,28 +118,35 @@ fn written(
     names: &[u8],
     n: usize,
     legs: &mut [Option<Leg>; LEGS],
+    input: &mut [[u8; ROOM]; LEGS],
     outs: &mut [Option<Heard>; LEGS],
 ) -> Result<u32, Told>
     requires { n ≤ 8 }
 {
     heard::make(rt, names, n, outs)?;
-    let frames = run(rt, n, legs, outs)?;
+    let frames = run(rt, n, legs, input, outs)?;
     heard::rewrite_all(rt, outs, frames)?;
     heard::keep_all(rt, outs)?;
     Ok(frames)
 }
 
 // The files are made, written and closed; where not all of that can be done, those that were made are removed again.
-fn make(rt: &HostRuntime, names: &[u8], n: usize, legs: &mut [Option<Leg>; LEGS])
+fn make(
+    rt: &HostRuntime,
+    names: &[u8],
+    n: usize,
+    legs: &mut [Option<Leg>; LEGS],
+    input: &mut [[u8; ROOM]; LEGS],
+)
     requires { n ≤ 8 }
 {
     let mut outs = [None, None, None, None, None, None, None, None];
-    match written(rt, names, n, legs, &mut outs) {
+    match written(rt, names, n, legs, input, &mut outs) {
         Ok(frames) => {
             drop(outs);
             let _ = tell(rt, n, frames);
         }
-        Err(Told) => heard::remove_all(rt, outs),
+        Err(Told) => heard::remove_all(rt, &mut outs),
     }
 }
 
@@ -144,8 +155,9 @@ fn conference_of(rt: &HostRuntime, names: &[u8], n: usize)
     requires { n ≤ 8 }
 {
     let mut legs = [None, None, None, None, None, None, None, None];
-    if inputs::begin(rt, names, n, &mut legs).is_ok() {
-        make(rt, names, n, &mut legs);
+    let mut input = [[0u8; ROOM]; LEGS];
+    if inputs::begin(rt, names, n, &mut legs, &mut input).is_ok() {
+        make(rt, names, n, &mut legs, &mut input);
     }
 }
 

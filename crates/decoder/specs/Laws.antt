@@ -3,7 +3,7 @@ use Prim.Native.Nat.{ℕ, zero, suc, ◌<◌}
 use Rattle.std.specs.Prelude.{◌≡◌, Bool, true, false, cond, Result, Ok, Err, List, ◌++◌, eqb, ℤ, length}
 use Rattle.std.proofs.Math.Path.{refl, ap}
 use Rattle.std.proofs.Common.{sym, ◌∙◌, arith}
-use borrow.Author.Tests.{eqb-true, eq-eqb, ne_eqb}
+use borrow.Author.Tests.{eqb-true, eqb-false, eq-eqb, ne_eqb}
 use Rattle.std.proofs.Math.Dec.{eqb-suc-zero}
 use Rattle.std.proofs.Math.ListN.{drop}
 use Rattle.refusal.specs.declared.Refusal.{Refusal}
@@ -104,11 +104,16 @@ module _ (t b : List ℤ) (kind : ℕ) (payload : List ℕ) (out : List ℤ) whe
   unfolding frame
   frame_refused q = rw (ne_eqb _ 0 (λ e. q (frame_number ∙ e))) (refl, refl)
 
--- the answer from what the calls inside give
-pub refused : (t b : List ℤ) (kind : ℕ) (payload : List ℕ) (out : List ℤ) (e : Refusal) → number_of e ≡ refusal t b kind payload (length out)
+-- the answer from what the calls inside give: n is the number that refuses it
+module _ (t b : List ℤ) (kind : ℕ) (payload : List ℕ) (out : List ℤ) {n : ℕ} (h : n ≡ refusal t b kind payload (length out)) where
+  pub refused : (n ≡ 0 → ⊥) → answer (Err n) b out ≡ frame t b kind payload out
+  unfolding frame
+  refused q = rw (← h, ne_eqb n 0 q)
+
+-- the same by the refusal's name
+pub refused_by : (t b : List ℤ) (kind : ℕ) (payload : List ℕ) (out : List ℤ) (e : Refusal) → number_of e ≡ refusal t b kind payload (length out)
     → answer (Err (number_of e)) b out ≡ frame t b kind payload out
-unfolding frame
-refused t b kind payload out e h = rw (← h, nonzero e)
+refused_by t b kind payload out e h = refused t b kind payload out h (eqb-false (number_of e) 0 (nonzero e))
 
 module _ (t b : List ℤ) (kind : ℕ) (payload : List ℕ) (out : List ℤ) (h : 0 ≡ refusal t b kind payload (length out)) where
   -- a frame that is not refused has a whole state block and room for its samples

@@ -84,7 +84,7 @@ pub fn check(t: &[i16], b: &[i16], kind: u32, payload: &[u8], room: usize) -> Re
 
 // The operation Frame (01; change request 12): the delays that the subframes used with their rules, with the state block and the 80 samples written;
 // or why it is refused, and both as they were.
-#[tactic(auto, using(crate::specs::Laws::refused))]
+#[tactic(auto, using(crate::specs::Laws::refused_by))]
 pub fn frame(
     t: &[i16],
     b: &mut [i16],

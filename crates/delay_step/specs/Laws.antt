@@ -1,8 +1,5 @@
 -- Laws of one line for a table of delays: what each operation's answer makes of it. Assumes nothing.
 use Rattle.std.specs.Prelude.{◌≡◌, List, ℕ, ℤ, length, take, replicate, Result, Ok, Err}
-use Rattle.refusal.specs.declared.Refusal.{Refusal}
-use Rattle.refusal.specs.Refusal as Refusals
-use Rattle.refusal.specs.Refusal.{numbered}
 use Rattle.count.specs.declared.Counts.{Counts}
 use Rattle.count.specs.Count.{count}
 use Rattle.line.specs.Line as Line
@@ -22,11 +19,11 @@ unfolding stop given over
 stop_given d from code out e h = rw (e, h)
 
 -- what the scan answers
-module _ (d : ℤ) (from : Progress) (next : Counts) (kind : ℕ) (payload : List ℕ) {s : Result Report Refusal} {d' : ℤ} (hs : Scan.answer (numbered s) d' ≡ Scan.frame_delays d kind payload) where
-  pub not_scanned : (out : List ℕ) {r : Refusal} {p : Progress} {w : ℕ} → s ≡ Err r → p ≡ with_code from (Refusals.number r) → w ≡ 0
+module _ (d : ℤ) (from : Progress) (next : Counts) (kind : ℕ) (payload : List ℕ) {s : Result Report ℕ} {d' : ℤ} (hs : Scan.answer s d' ≡ Scan.frame_delays d kind payload) where
+  pub not_scanned : (out : List ℕ) {code : ℕ} {p : Progress} {w : ℕ} → s ≡ Err code → p ≡ with_code from code → w ≡ 0
       → answer (kept d' p) w out ≡ given (scanned from next (Scan.frame_delays d kind payload)) out
   unfolding scanned
-  not_scanned out {r} h e w = rw (← hs, h) (stop_given d' from (Refusals.number r) out e w)
+  not_scanned out {code} h e w = rw (← hs, h) (stop_given d' from code out e w)
 
   pub is_scanned : (out₀ : List ℕ) {r : Report} {p : Progress} {w : ℕ} {out : List ℕ} → s ≡ Ok r → p ≡ record { code = 0; lines = one_more from.lines; counts = next }
       → w ≡ length (report_row (one_more from.lines) r) → out ≡ over (report_row (one_more from.lines) r) out₀
@@ -35,8 +32,8 @@ module _ (d : ℤ) (from : Progress) (next : Counts) (kind : ℕ) (payload : Lis
   is_scanned out₀ h e w o = rw (← hs, h, e, w, o)
 
 -- the operation Count
-module _ (job : Job) (kind : ℕ) (payload : List ℕ) {c : Result Counts Refusal} (hc : numbered c ≡ count kind (rules (decide kind payload)) job.progress.counts) where
-  pub not_counted : {r : Refusal} → c ≡ Err r → frame_step job kind payload ≡ stop job (Refusals.number r)
+module _ (job : Job) (kind : ℕ) (payload : List ℕ) {c : Result Counts ℕ} (hc : c ≡ count kind (rules (decide kind payload)) job.progress.counts) where
+  pub not_counted : {code : ℕ} → c ≡ Err code → frame_step job kind payload ≡ stop job code
   unfolding frame_step counted
   not_counted e = rw (← hc, e)
 
@@ -45,12 +42,12 @@ module _ (job : Job) (kind : ℕ) (payload : List ℕ) {c : Result Counts Refusa
   is_counted e = rw (← hc, e)
 
 -- the operation Line
-module _ (job : Job) (l : List ℕ) {a : Result ℕ Refusal} {bytes : List ℕ} where
-  pub not_line : {r : Refusal} → a ≡ Err r → Line.answer (numbered a) bytes ≡ Line.line l (replicate 10 0) → delay_step job l ≡ stop job (Refusals.number r)
+module _ (job : Job) (l : List ℕ) {r : Result ℕ ℕ} {bytes : List ℕ} where
+  pub not_line : {code : ℕ} → r ≡ Err code → Line.answer r bytes ≡ Line.line l (replicate 10 0) → delay_step job l ≡ stop job code
   unfolding delay_step taken
   not_line h e = rw (← e, h)
 
-  pub is_line : {kind n : ℕ} → a ≡ Ok kind → Line.answer (numbered a) bytes ≡ Line.line l (replicate 10 0) → n ≡ payload_length kind
+  pub is_line : {kind n : ℕ} → r ≡ Ok kind → Line.answer r bytes ≡ Line.line l (replicate 10 0) → n ≡ payload_length kind
       → delay_step job l ≡ frame_step job kind (take n bytes)
   unfolding delay_step taken
   is_line h e k = rw (← e, h, ← k)

@@ -60,7 +60,9 @@ impl Rows {
     }
 
     // All are written, and none is left.
-    fn spill(&mut self, rt: &HostRuntime) -> Result<(), Told> {
+    fn spill(&mut self, rt: &HostRuntime) -> Result<(), Told>
+        ensures { self.new.used ≡ 0 }
+    {
         let n = self.used;
         self.used = 0;
         let view: &[u8] = &self.bytes;
@@ -91,7 +93,7 @@ fn following(left: usize, ended: bool) -> Next {
 impl Place {
     // The rows at hand are written.
     fn spill(&mut self, rt: &HostRuntime, rows: &mut Rows)
-        ensures { self.new.source ≡ self.old.source }
+        ensures { (self.new.source ≡ self.old.source) × (rows.new.used ≡ 0) }
     {
         if rows.spill(rt).is_err() {
             self.next = Next::Failed;

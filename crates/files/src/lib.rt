@@ -2,7 +2,7 @@
 // decided is decided on slices (`options`, `call`).
 #![tactic(auto)]
 
-ghost use Rattle.std.specs.Prelude.{◌≡◌, ◌<◌, length, IfOk};
+ghost use Rattle.std.specs.Prelude.{◌≡◌, ◌≤◌, ◌<◌, length, IfOk, IfSome};
 ghost use Rattle.std.specs.Io.{ReadsAtMost};
 ghost use Rattle.crc32.specs.Crc32.{crc32};
 ghost use Rattle.call.specs.Chunk.{Begun, begin};
@@ -149,7 +149,9 @@ pub fn standard_open(rt: &HostRuntime) -> Result<(), Told> {
 }
 
 // Argument i, in the room that is lent: empty where it does not fit; none where there is no such argument.
-pub fn arg<'a>(rt: &HostRuntime, i: usize, room: &'a mut [u8]) -> Option<&'a [u8]> {
+pub fn arg<'a>(rt: &HostRuntime, i: usize, room: &'a mut [u8]) -> Option<&'a [u8]>
+    ensures { IfSome result (λ word. length word.now ≤ length room.old) }
+{
     match rt.arg(i, room) {
         Ok(n) => Some(&room[..n]),
         Err(FillError::TooLong) => Some(b""),
@@ -170,16 +172,20 @@ pub fn asked(rt: &HostRuntime, least: usize, most: usize) -> Asked {
     a.ended(least)
 }
 
-// The argument of this number, in the room that is lent, empty where it does not fit; the default where none is given.
+// The argument of this number, in the room that is lent, or the default where none is given; empty where there is no such argument, or where what is to be handed back does
+// not fit the room.
 pub fn argument<'a>(
     rt: &HostRuntime,
     i: Option<usize>,
     default: &'a [u8],
     room: &'a mut [u8],
-) -> &'a [u8] {
+) -> &'a [u8]
+    ensures { length result.now ≤ length room.old }
+{
     match i {
         Some(i) => arg(rt, i, room).unwrap_or(b""),
-        None => default,
+        None if default.len() <= room.len() => default,
+        None => b"",
     }
 }
 

@@ -1,5 +1,6 @@
 -- Laws of the scan of one frame, from what the calls inside it give. Assumes nothing.
 use Rattle.std.specs.Prelude.{ℕ, ◌≡◌, Ok, Err, List, ℤ}
+use borrow.Author.Tests.{eqb-false, ne_eqb}
 use Rattle.refusal.specs.declared.Refusal.{Refusal}
 use Rattle.refusal.specs.Refusal.{number}
 use Rattle.refusal.specs.Laws.{nonzero}
@@ -10,10 +11,16 @@ use Rattle.rule.specs.declared.Report.{Report}
 use Rattle.rule.specs.Rule.{delays, report}
 use Rattle.frame_delays.specs.Delays.{refusal, answer, frame_delays}
 
-pub refused : (carried : ℤ) (kind : ℕ) (payload : List ℕ) (e : Refusal) → number e ≡ refusal carried kind payload
+-- n is the number that refuses it
+module _ (carried : ℤ) (kind : ℕ) (payload : List ℕ) {n : ℕ} (h : n ≡ refusal carried kind payload) where
+  pub refused : (n ≡ 0 → ⊥) → answer (Err n) carried ≡ frame_delays carried kind payload
+  unfolding frame_delays
+  refused q = rw (← h, ne_eqb n 0 q)
+
+-- the same by the refusal's name
+pub refused_by : (carried : ℤ) (kind : ℕ) (payload : List ℕ) (e : Refusal) → number e ≡ refusal carried kind payload
     → answer (Err (number e)) carried ≡ frame_delays carried kind payload
-unfolding frame_delays
-refused carried kind payload e h = rw (← h, nonzero e)
+refused_by carried kind payload e h = refused carried kind payload h (eqb-false (number e) 0 (nonzero e))
 
 -- `next` is what the carried delay is set to
 pub done : (carried : ℤ) (kind : ℕ) (payload : List ℕ) → 0 ≡ refusal carried kind payload → {d : Decision} → d ≡ decide kind payload → (x : Delays) {r : Report} {next : ℤ}

@@ -23,7 +23,7 @@ fn check(carried: i16, kind: u32, payload: &[u8]) -> Result<(), Refusal>
 }
 
 // Both delays and both rules of a frame, with the delay that is carried on written; or why it is refused, and the carried one as it was.
-#[tactic(auto, using(crate::specs::Laws::refused))]
+#[tactic(auto, using(crate::specs::Laws::refused_by))]
 pub fn frame_delays(carried: &mut i16, kind: u32, payload: &[u8]) -> Result<Report, Refusal>
     ensures { Answer.answer (numbered result) carried.new ≡ frame_delays carried.old kind payload.now }
 {

@@ -18,8 +18,8 @@ use Rattle.laws.specs.Ints.{sameZ, sameZ_yes, sameZ_true, sameZ_false}
 use Rattle.laws.specs.Lists.{at}
 use Rattle.laws.specs.Loops.{every, every_at}
 use Rattle.g711.specs.declared.Form.{Form}
-use Rattle.g711.specs.G711.{known, value, last, read, written, refusal, read_call, write_call}
-use Rattle.g711.specs.Fast.{sized, lowest, five_above, fault, leading, sign_bit}
+use Rattle.g711.specs.G711.{mu, a, known, value, last, read, written, refusal, read_call, write_call}
+use Rattle.g711.specs.Fast.{form, sized, lowest, five_above, fault, leading, sign_bit}
 
 -- ---- the tables
 
@@ -119,6 +119,28 @@ module _ (law : ℕ) (e : known law ≡ true) where
     pub read_done : out ≡ map (value law) bytes → read 0 out ≡ read_call law bytes before
     unfolding read_call refusal
     read_done g = rw (e, eq-eqb (length bytes) (length before) n) (ap (read 0) g)
+
+    pub read_a : law ≡ 1 → out ≡ map a bytes → read 0 out ≡ read_call law bytes before
+    unfolding value
+    read_a f g = let e : (b : ℕ) → a b ≡ value law b = λ b. sym (rw (eq-eqb law 1 f)) in read_done (g ∙ (λ i. map (λ b. e b i) bytes))
+
+    pub read_mu : (law ≡ 1 → ⊥) → out ≡ map mu bytes → read 0 out ≡ read_call law bytes before
+    unfolding value
+    read_mu f g = let e : (b : ℕ) → mu b ≡ value law b = λ b. sym (rw (ne_eqb law 1 f)) in read_done (g ∙ (λ i. map (λ b. e b i) bytes))
+
+pub bias_le : (law : ℕ) (f : Form) → f ≡ form law → f.bias ≤ 132
+unfolding form
+bias_le law f e = rw e (by (eqb law 1))
+  where
+    A : Form
+    A = record { bias = 0; lift = 256; flips = 0xd5 }
+
+    M : Form
+    M = record { bias = 132; lift = 0; flips = 0xff }
+
+    by : (p : Bool) → (cond p A M).bias ≤ 132
+    by true = omega arith
+    by false = omega arith
 
 -- not refused: the law is known, and the lengths are equal
 pub taken : (law m n code : ℕ) → code ≡ refusal law m n → code ≡ 0 → (known law ≡ true) × (m ≡ n)

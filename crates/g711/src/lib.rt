@@ -130,7 +130,7 @@ impl Law {
 // A size below a limit with 256 added.
 fn lifted(x: u16, limit: u16) -> u16
     requires { x ≤ 33023 }
-    ensures { (result ≡ lifted x limit) × (result ≤ 33279) }
+    ensures { (result ≡ lifted x limit) × (result ≤ x + 256) }
 {
     if x < limit { x + 256 } else { x }
 }
@@ -169,14 +169,14 @@ fn segment_less(x: u16, limit: u16) -> u16
 impl Form {
     // A sample without its sign, and the bias.
     fn biased(self, z: i16) -> u16
-        ensures { (result ≡ nat_abs z + self.bias) × (result ≤ 33023) }
+        ensures { (result ≡ nat_abs z + self.bias) × (result ≤ 32768 + self.bias) }
     {
         z.unsigned_abs() + u16::from(self.bias)
     }
 
     // The size by which segment and step are told.
     fn sized(self, z: i16) -> u16
-        ensures { (result ≡ sized self z) × (result ≤ 33279) }
+        ensures { (result ≡ sized self z) × (result ≤ 33024 + self.bias) }
     {
         lifted(self.biased(z), self.lift)
     }

@@ -1,6 +1,6 @@
 -- What the proofs of `job` use of its definitions: the job file put together and tested, and names. Assumes nothing.
 use Rattle.std.specs.Prelude.{◌≡◌, ℕ, suc, ◌+◌, ◌-◌, ◌*◌, ◌^◌, ◌<◌, ◌≤◌, min, Bool, true, false, cond, ◌≢◌, List, [], ◌∷◌, ◌++◌, length, take, drop, ℤ, ◌==◌, slice_index, slice_index_or, slice_range, refl, Result, Ok, Err, None, Some}
-use Rattle.std.proofs.Common.{sym, ap, ◌∙◌, append_assoc, append-nil, add-one, arith, length-append, length-take, length-drop, drop_of_length-le, take-suc, take_all, length-take-le, take_at, drop_at, drop-drop}
+use Rattle.std.proofs.Common.{sym, ap, ◌∙◌, append_assoc, append-nil, arith, length-append, length-take, length-drop, drop_of_length-le, take-suc, take_all, length-take-le, take_at, drop_at, drop-drop}
 use borrow.Author.Tests.{eq-eqb, ne_eqb, eqb-true, le-leb, lt-leb}
 use Rattle.std.proofs.Math.Seq.{take-length}
 use Rattle.count.specs.declared.Counts.{Counts}
@@ -12,10 +12,6 @@ use Rattle.text.specs.Text.{ascii}
 use Rattle.words.specs.Words.{bytes, from_bytes, to_bytes, number, number_bytes, numbers_bytes, put_numbers}
 use Rattle.words.specs.Laws.{from_whole, to_whole, length_bytes, length_number_bytes, length_numbers_bytes, put_whole, total}
 use Rattle.job.specs.declared.Saved.{Saved}
-use Rattle.refusal.specs.declared.Refusal.{Refusal}
-use Rattle.refusal.specs.Refusal as Refusals
-use Rattle.refusal.specs.Refusal.{numbered}
-use Rattle.refusal.specs.Laws as RefusalLaws
 use Rattle.job.specs.Names.{new, aside, folder}
 use Rattle.job.specs.Names as Names
 use Rattle.job.specs.Job.{state_at, counts_at, sum_at, file_length, widths, head, count_widths, state_and_counts, body, pack, block, place, sum_fits, known, fits, check, answer, read}
@@ -118,9 +114,9 @@ check_zero f tables e = by (length f == file_length) refl
     by true h = eqb-true _ _ h
     by false h = let z : ◌≡◌ {A = ℕ} 3 0 = rw h at e in absurd (omega arith)
 
-pub read_refused : (f : List ℕ) (tables : ℕ) (lent : List ℤ) (r : Refusal) → Refusals.number r ≡ check f tables → answer (Err (Refusals.number r)) lent ≡ read f tables lent
+pub read_refused : (f : List ℕ) (tables : ℕ) (lent : List ℤ) (r : ℕ) → r ≡ check f tables → (r ≢ 0) → answer (Err r) lent ≡ read f tables lent
 unfolding read
-read_refused f tables lent r e = rw (← e, RefusalLaws.nonzero r)
+read_refused f tables lent r e h = rw (← e, ne_eqb _ _ h)
 
 pub read_done : (f : List ℕ) (tables : ℕ) (lent z : List ℤ) (p : Saved) → 0 ≡ check f tables → p ≡ place f → length lent ≡ 234
     → z ≡ from_bytes (slice_range f state_at counts_at) lent → answer (Ok p) z ≡ read f tables lent
@@ -131,9 +127,9 @@ read_done f tables lent z p e g k i =
 
 -- ---- names
 
-pub aside_short : (path out : List ℕ) → length out < length path + 4 → Names.answer None out ≡ aside path out
+pub aside_short : (path out : List ℕ) → length out < length path + 4 → (Names.answer None out ≡ aside path out) × (0 ≤ length out)
 unfolding aside
-aside_short path out h = rw (lt-leb (length path + 4) (length out) h)
+aside_short path out h = (rw (lt-leb (length path + 4) (length out) h), omega arith)
 
 -- two parts written one behind the other
 two_parts : (path q out o v : List ℕ) (n : ℕ) → length path + length q ≤ length out → n ≡ length path → o ≡ take (length path) path ++ drop (length path) out
@@ -153,11 +149,11 @@ two_parts path q out o v n h e g i =
 
 pub aside_done : (path out o v : List ℕ) (n m : ℕ) → length path + 4 ≤ length out → n ≡ length path → o ≡ take (length path) path ++ drop (length path) out → m ≡ 4
     → v ≡ ascii ".new" ++ drop 4 (take (length o - n) (drop n o))
-    → Names.answer (Some (n + m)) (take n o ++ (v ++ drop (length o - n) (drop n o))) ≡ aside path out
+    → (Names.answer (Some (n + m)) (take n o ++ (v ++ drop (length o - n) (drop n o))) ≡ aside path out) × (n + m ≤ length out)
 unfolding aside new
 aside_done path out o v n m h e g f i =
     let k : n + m ≡ length path + 4 = omega arith in
-    rw (le-leb (length path + 4) (length out) h, two_parts path (ascii ".new") out o v n h e g i, k)
+    (rw (le-leb (length path + 4) (length out) h, two_parts path (ascii ".new") out o v n h e g i, k), omega arith)
 
 folder_snoc : (l : List ℕ) (b : ℕ) → folder (l ++ (b ∷ [])) ≡ cond (b == 47) (suc (length l)) (folder l)
 unfolding folder
@@ -171,16 +167,22 @@ folder_snoc (x ∷ l) b = rw (folder_snoc l b) (by (b == 47))
 folder_take : (l : List ℕ) (n : ℕ) → n < length l → folder (take (suc n) l) ≡ cond (slice_index l n == 47) (suc n) (folder (take n l))
 folder_take l n h = rw (take-suc l n 0 h, folder_snoc, length-take-le n l (omega arith))
 
--- a byte more: the last `/` so far
-pub folder_here : (l : List ℕ) (n : ℕ) → n < length l → slice_index_or l n 0 ≡ 47 → n + 1 ≡ folder (take (n + 1) l)
-folder_here l n h g = rw add-one (sym (folder_take l n h ∙ rw (eq-eqb _ _ g)))
+module _ (l : List ℕ) (n : ℕ) (h : 0 < n) (k : n ≤ length l) (e : folder l ≡ folder (take n l)) where
+  last : suc (n - 1) ≡ n
+  last = omega arith
 
-pub folder_not : (l : List ℕ) (n : ℕ) → n < length l → (slice_index l n ≢ 47) → folder (take n l) ≡ folder (take (n + 1) l)
-folder_not l n h g = rw add-one (sym (folder_take l n h ∙ rw (ne_eqb _ _ g)))
+  step : folder l ≡ cond (slice_index l (n - 1) == 47) (suc (n - 1)) (folder (take (n - 1) l))
+  step = e ∙ ap (λ (m : ℕ). folder (take m l)) (sym last) ∙ folder_take l (n - 1) (omega arith)
 
-pub folder_none : (l : List ℕ) → 0 ≡ folder (take 0 l)
-unfolding folder
-folder_none l = refl
+  pub folder_here : slice_index_or l (n - 1) 0 ≡ 47 → n ≡ folder l
+  folder_here g = sym (step ∙ rw (eq-eqb _ _ g) last)
 
-pub folder_all : (l : List ℕ) → folder (take (length l) l) ≡ folder l
+  pub folder_not : (slice_index l (n - 1) ≢ 47) → folder l ≡ folder (take (n - 1) l)
+  folder_not g = step ∙ rw (ne_eqb _ _ g)
+
+pub folder_all : (l : List ℕ) → folder l ≡ folder (take (length l) l)
 folder_all l = rw take-length
+
+pub folder_none : (l : List ℕ) (n : ℕ) → n ≤ 0 → folder l ≡ folder (take n l) → 0 ≡ folder l
+unfolding folder
+folder_none l n h e = let z : n ≡ 0 = omega arith in sym (rw z at e)

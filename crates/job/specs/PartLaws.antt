@@ -75,11 +75,11 @@ unfolding digits
 digits_step l i n h = rw (drop-cons l i 0 h, add-one)
 
 module _ (l : List ℕ) (i n : ℕ) (h : i < length l) (e : digits 0 l ≡ digits n (drop i l)) where
-  wanted_low : slice_index_or l i 0 < 48 → None ≡ wanted l
+  pub wanted_low : slice_index_or l i 0 < 48 → None ≡ wanted l
   unfolding wanted
   wanted_low k = rw (ne_eqb (length l) 0 (λ z. omega arith), e, digits_step l i n h, lt-leb 48 (slice_index l i) k)
 
-  wanted_high : 48 ≤ slice_index l i → 57 < slice_index l i → None ≡ wanted l
+  pub wanted_high : 48 ≤ slice_index l i → 57 < slice_index l i → None ≡ wanted l
   unfolding wanted
   wanted_high j k = rw (ne_eqb (length l) 0 (λ z. omega arith), e, digits_step l i n h, le-leb 48 (slice_index l i) j, lt-leb (slice_index l i) 57 k)
 

@@ -24,11 +24,10 @@ pub fn folder(path: &[u8]) -> usize
     ensures last { result ≡ folder path.now }
     ensures within { result ≤ length path.now }
 {
-    let mut n = 0;
-    for (i, b) in path.iter().enumerate() {
-        if *b == b'/' {
-            n = i + 1;
+    for i in (0..path.len()).rev() {
+        if path[i] == b'/' {
+            return i + 1;
         }
     }
-    n
+    0
 }

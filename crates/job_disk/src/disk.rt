@@ -1,5 +1,5 @@
 // The system calls by which a job writes, each with an account of the files, `Disk`: no contract can say what a call does, but each says what its arguments have to be.
-ghost use Rattle.std.specs.Prelude.{◌≡◌, ◌+◌, length, IfOk};
+ghost use Rattle.std.specs.Prelude.{◌≡◌, ◌+◌, true, length, IfOk};
 ghost use Rattle.job.specs.Job.{pack};
 ghost use Rattle.job.specs.Part.{position};
 ghost use Rattle.job_disk.specs.Disk.{Put, Synced, Kept, OnDisk};
@@ -11,13 +11,14 @@ use std::fs::File;
 use std::os::unix::fs::FileExt;
 use std::{fs, io};
 
-// How many bytes of OUT should be written by now, how many of them should be on the disk, and how many lines the saved state should have taken. There is no account behind a call
-// that failed, so no state is saved behind a failure.
+// How many bytes of OUT should be written by now, how many of them should be on the disk, and how many lines the saved state should have taken; good where all that is written is on the
+// disk, as the system said. There is no account behind a call that failed, so no state is saved behind a failure.
 #[derive(Clone, Copy)]
 pub(crate) struct Disk {
     pub written: u64,
     pub synced: u64,
     pub saved: u32,
+    pub good: bool,
 }
 
 // The files of a job whose state was saved at this place.
@@ -29,6 +30,7 @@ pub(crate) fn at(p: Saved) -> Disk
         written: p.written,
         synced: p.written,
         saved: p.lines,
+        good: true,
     }
 }
 
@@ -70,6 +72,7 @@ pub(crate) fn put(
     write_all(rt, d, f, forms, at)?;
     Ok(Disk {
         written: std::num::wrapping_add_u64(at, forms.len() as u64),
+        good: false,
         ..d
     })
 }
@@ -86,6 +89,7 @@ fn sync(rt: &HostRuntime, d: Disk, f: Files<'_>) -> Result<Disk, Told>
     flush(rt, f.out, f.out_name)?;
     Ok(Disk {
         synced: d.written,
+        good: true,
         ..d
     })
 }
@@ -178,7 +182,7 @@ fn save_synced(
     d: Disk,
 ) -> Result<Disk, Told>
     requires { OnDisk p d }
-    ensures { IfOk result (λ r. Kept p r) }
+    ensures { IfOk result (λ r. (r.good ≡ true) × Kept p r) }
 {
     save(rt, state, b, p, d)?;
     Ok(Disk {
@@ -196,7 +200,7 @@ pub(crate) fn keep(
     f: Files<'_>,
 ) -> Result<Disk, Told>
     requires { d.written ≡ p.written }
-    ensures { IfOk result (λ r. Kept p r) }
+    ensures { IfOk result (λ r. (r.good ≡ true) × Kept p r) }
 {
     let s = sync(rt, d, f)?;
     save_synced(rt, f.state, b, p, s)

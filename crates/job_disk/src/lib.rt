@@ -4,7 +4,7 @@
 
 mod disk;
 
-ghost use Rattle.std.specs.Prelude.{◌≡◌, IfOk, IfSome};
+ghost use Rattle.std.specs.Prelude.{◌≡◌, true, IfOk, IfSome};
 ghost use Rattle.std.specs.Io.{ReadsAtMost};
 ghost use Rattle.job.specs.Part.{position};
 ghost use Rattle.job_disk.specs.Disk.{Kept, Between};
@@ -79,7 +79,7 @@ fn finish(
     d: Disk,
     f: Files<'_>,
 ) -> Result<(), Told>
-    requires { Kept p d }
+    requires { (d.good ≡ true) × Kept p d }
 {
     put_last(rt, job, held, p.written, d, f)
 }
@@ -93,7 +93,7 @@ fn refuse(rt: &HostRuntime, p: Saved, code: u32, d: Disk, f: Files<'_>) -> Resul
 
 // Says where the job stopped, when its state is saved.
 fn print_saved(rt: &HostRuntime, p: Saved, d: Disk)
-    requires { Kept p d }
+    requires { (d.good ≡ true) × Kept p d }
 {
     let counts = p.counts;
     let mut form = [0u8; FORM_ROOM];
@@ -103,14 +103,14 @@ fn print_saved(rt: &HostRuntime, p: Saved, d: Disk)
 
 // As many frames are done as were asked for: OUT ends with the last of them.
 fn stop(rt: &HostRuntime, p: Saved, d: Disk, f: Files<'_>) -> Result<(), Told>
-    requires { Kept p d }
+    requires { (d.good ≡ true) × Kept p d }
 {
     disk::cut(rt, d, f, p.written)?;
     print_saved(rt, p, d);
     Ok(())
 }
 
-// Behind a part of frames: the state is saved where as many frames are done as were asked for, which ends the job, or where it is due.
+// Behind a part of frames: the state is saved where as many frames are done as were asked for, so that none is left and the job ends, or where it is due.
 fn behind(
     rt: &HostRuntime,
     b: &[i16; 234],
@@ -118,28 +118,32 @@ fn behind(
     d: Disk,
     left: u32,
     f: Files<'_>,
-) -> Result<Option<Todo>, Told>
+) -> Result<Todo, Told>
     requires { d.written ≡ p.written }
-    ensures { IfOk result (λ r. IfSome r Between) }
+    ensures { IfOk result Between }
 {
     if left == 0 {
         let k = disk::keep(rt, d, b, p, f)?;
         stop(rt, p, k, f)?;
-        return Ok(None);
+        return Ok(Todo {
+            place: p,
+            disk: k,
+            left: 0,
+        });
     }
     if job_step::due(p, d.saved) {
         let k = disk::keep(rt, d, b, p, f)?;
-        return Ok(Some(Todo {
+        return Ok(Todo {
             place: p,
             disk: k,
             left,
-        }));
+        });
     }
-    Ok(Some(Todo {
+    Ok(Todo {
         place: p,
         disk: d,
         left,
-    }))
+    })
 }
 
 // The call ends at the place, or the line there is refused: the state is saved, then the last form is written.
@@ -232,7 +236,8 @@ fn settle(
         return Ok(None);
     }
     if 0 < part.written {
-        return behind(rt, b, part.place, done.disk, part.left, f);
+        let next = behind(rt, b, part.place, done.disk, part.left, f)?;
+        return Ok(if next.left == 0 { None } else { Some(next) });
     }
     end(rt, b, r, held, f)
 }

@@ -3,9 +3,6 @@ use Rattle.std.specs.Prelude.{◌≡◌, refl, Bool, true, false, cond, List, []
 use Rattle.std.proofs.Math.Path.{ap, sym}
 use Rattle.std.proofs.Common.{◌∙◌, arith}
 use borrow.Author.Tests.{eq-eqb, ne_eqb, eqb-true, eqb-false, ltb-true, ltb-false}
-use Rattle.refusal.specs.declared.Refusal.{Refusal}
-use Rattle.refusal.specs.Refusal.{number, numbered}
-use Rattle.refusal.specs.Laws.{nonzero}
 use Rattle.rule.specs.declared.Report.{Report}
 use Rattle.count.specs.declared.Counts.{Counts}
 use Rattle.count.specs.Count.{count}
@@ -30,25 +27,25 @@ unfolding stop given over
 stop_given b from code out e h = rw (e, h)
 
 -- a frame that is counted
-module _ (t b : List ℤ) (from : Progress) (next : Counts) (kind : ℕ) (payload : List ℕ) {f : Result Report Refusal} {b' samples : List ℤ}
-    (hf : Frame.answer (numbered f) b' samples ≡ Frame.frame t b kind payload (replicate 80 (pos 0))) where
-  pub step_refused : (out : List ℕ) {r : Refusal} {p : Progress} {w : ℕ} → f ≡ Err r → p ≡ with_code from (number r) → w ≡ 0
+module _ (t b : List ℤ) (from : Progress) (next : Counts) (kind : ℕ) (payload : List ℕ) {f : Result Report ℕ} {b' samples : List ℤ}
+    (hf : Frame.answer f b' samples ≡ Frame.frame t b kind payload (replicate 80 (pos 0))) {code : ℕ} (hc : code ≡ Frame.code f) where
+  pub step_refused : (out : List ℕ) {p : Progress} {w : ℕ} → (code ≡ 0 → ⊥) → p ≡ with_code from code → w ≡ 0
       → answer (kept b' p) w out ≡ given (framed (kept b from) next (Frame.frame t b kind payload (replicate 80 (pos 0)))) out
   unfolding framed
-  step_refused out {r} g e w =
-      let z : Frame.number (Frame.frame t b kind payload (replicate 80 (pos 0))) ≡ number r = ap Frame.number (sym hf) ∙ rw g in
-      let q : b' ≡ b = ap Frame.block hf ∙ (frame_refused t b kind payload (replicate 80 (pos 0)) (λ k. eqb-false (number r) 0 (nonzero r) (sym z ∙ k))).0 in
-      rw (z, nonzero r, q) (stop_given b from (number r) out e w)
+  step_refused out h e w =
+      let z : Frame.number (Frame.frame t b kind payload (replicate 80 (pos 0))) ≡ code = ap Frame.number (sym hf) ∙ sym hc in
+      let q : b' ≡ b = ap Frame.block hf ∙ (frame_refused t b kind payload (replicate 80 (pos 0)) (λ k. h (sym z ∙ k))).0 in
+      rw (z, ne_eqb code 0 h, q) (stop_given b from code out e w)
 
-  pub step_done : (out₀ : List ℕ) {x : Report} {p : Progress} {w : ℕ} {out : List ℕ} → f ≡ Ok x → p ≡ record { code = 0; lines = one_more from.lines; counts = next }
+  pub step_done : (out₀ : List ℕ) {p : Progress} {w : ℕ} {out : List ℕ} → code ≡ 0 → p ≡ record { code = 0; lines = one_more from.lines; counts = next }
       → w ≡ length (pcm samples) → out ≡ over (pcm samples) out₀
       → answer (kept b' p) w out ≡ given (framed (kept b from) next (Frame.frame t b kind payload (replicate 80 (pos 0)))) out₀
   unfolding framed done given
-  step_done out₀ h e w o = rw (← hf, h, e, w, o)
+  step_done out₀ h e w o = rw (← hf, ← hc, eq-eqb code 0 h, e, w, o)
 
 -- the operation Count
-module _ (t : List ℤ) (job : Job) (kind : ℕ) (payload : List ℕ) {c : Result Counts Refusal} (hc : numbered c ≡ count kind (rules (decide kind payload)) job.progress.counts) where
-  pub not_counted : {r : Refusal} → c ≡ Err r → frame_step t job kind payload ≡ stop job (number r)
+module _ (t : List ℤ) (job : Job) (kind : ℕ) (payload : List ℕ) {c : Result Counts ℕ} (hc : c ≡ count kind (rules (decide kind payload)) job.progress.counts) where
+  pub not_counted : {code : ℕ} → c ≡ Err code → frame_step t job kind payload ≡ stop job code
   unfolding frame_step counted
   not_counted e = rw (← hc, e)
 
@@ -57,12 +54,12 @@ module _ (t : List ℤ) (job : Job) (kind : ℕ) (payload : List ℕ) {c : Resul
   is_counted e = rw (← hc, e)
 
 -- the operation Line
-module _ (t : List ℤ) (job : Job) (l : List ℕ) {a : Result ℕ Refusal} {bytes : List ℕ} where
-  pub not_line : {r : Refusal} → a ≡ Err r → Line.answer (numbered a) bytes ≡ Line.line l (replicate 10 0) → line_step t job l ≡ stop job (number r)
+module _ (t : List ℤ) (job : Job) (l : List ℕ) {r : Result ℕ ℕ} {bytes : List ℕ} where
+  pub not_line : {code : ℕ} → r ≡ Err code → Line.answer r bytes ≡ Line.line l (replicate 10 0) → line_step t job l ≡ stop job code
   unfolding line_step taken
   not_line h e = rw (← e, h)
 
-  pub is_line : {kind n : ℕ} → a ≡ Ok kind → Line.answer (numbered a) bytes ≡ Line.line l (replicate 10 0) → n ≡ payload_length kind
+  pub is_line : {kind n : ℕ} → r ≡ Ok kind → Line.answer r bytes ≡ Line.line l (replicate 10 0) → n ≡ payload_length kind
       → line_step t job l ≡ frame_step t job kind (take n bytes)
   unfolding line_step taken
   is_line h e k = rw (← e, h, ← k)

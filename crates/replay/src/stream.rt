@@ -9,7 +9,8 @@ use std::io::Read;
 // As many words as are read at a time.
 const CHUNK: usize = 256;
 
-// The bytes of one read; 0 at the end of the input.
+// The bytes of one read; 0 at the end of the input. Inlined, and so is `read_full`: then nothing is left of the 8 KiB that a reader on standard input sets aside for lines.
+#[inline(always)]
 fn read_some<I: Read>(input: &mut I, text: &mut [u8]) -> usize
     ensures { result ≤ length text.new }
 {
@@ -17,6 +18,7 @@ fn read_some<I: Read>(input: &mut I, text: &mut [u8]) -> usize
 }
 
 // Reads until `text` is full or the input ends, and gives how many bytes it read. Counted by hand: a read gives as many bytes as it likes.
+#[inline(always)]
 pub fn read_full<R: Input>(rt: &R, text: &mut [u8]) -> usize
     ensures { result ≤ length text.new }
 {
@@ -42,17 +44,20 @@ pub fn byte<R: Input>(rt: &R) -> Option<u8> {
     }
 }
 
-// Fills `words` from the next four digits each, and takes the end of their line. None where the input ends before.
+// Fills `words` from the next four digits each, and takes the end of their line with the last of them: one read for up to 256 words, since each costs more than its bytes. None where
+// the input ends before.
 pub fn read_words<R: Input>(rt: &R, words: &mut [i16]) -> Option<()> {
-    let mut text = [0u8; 4 * CHUNK];
-    for words in words.chunks_mut(CHUNK) {
-        let digits = 4 * words.len();
-        if read_full(rt, &mut text[..digits]) < digits {
+    let mut text = [0u8; 4 * CHUNK + 1];
+    let mut left = words.len();
+    for part in words.chunks_mut(CHUNK) {
+        left = left.saturating_sub(part.len());
+        let digits = 4 * part.len();
+        let all = digits + usize::from(left == 0);
+        if read_full(rt, &mut text[..all]) < all {
             return None;
         }
-        hex::words(&text[..digits], words);
+        hex::words(&text[..digits], part);
     }
-    byte(rt)?;
     Some(())
 }
 

@@ -7,7 +7,7 @@
 mod rows;
 
 use replay::tally::Tally;
-use replay::{part, stream};
+use replay::{hex, part, stream};
 use rows::Row;
 
 // The sixteen numbers of a line.
@@ -63,10 +63,14 @@ fn replay(line: &[i16], tally: &mut Tally) {
     read_back(line, tally);
 }
 
-// The next line. None at the end.
+// The next line, its letter with the words at one read, since all lines are of one size. None at the end.
 fn line<R: Input>(rt: &R, tally: &mut Tally) -> Option<()> {
-    stream::byte(rt)?;
-    let line: [i16; 33] = stream::words(rt)?;
+    let mut text = [0u8; 134];
+    if stream::read_full(rt, &mut text) < text.len() {
+        return None;
+    }
+    let mut line = [0i16; 33];
+    hex::words(&text[1..133], &mut line);
     replay(&line, tally);
     Some(())
 }

@@ -43,7 +43,7 @@ total t =
 -- the first frame that differs
 unfoldable pub fault : First → List ℕ
 fault f =
-    figure (ascii "(line (frame ") f.frame ++ figure (ascii ") (sample ") f.at.sample ++ signed (ascii ") (rest ") f.at.rest
+    figure (ascii "(line (frame ") f.frame ++ figure (ascii ") (sample ") f.sample ++ signed (ascii ") (rest ") f.rest
     ++ ascii ") (no decoder of these frames, whatever its past, makes these samples))\n"
 
 -- the last frame that both have, where the far samples end before the call, or the call before them

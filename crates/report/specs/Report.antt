@@ -48,4 +48,4 @@ earliest None n Concealed = None
 earliest None n (Settling k) = None
 earliest None n (NotClean k) = None
 earliest None n Known = None
-earliest None n (Differs d) = Some (record { frame = n; at = d })
+earliest None n (Differs d) = Some (record { frame = n; sample = d.sample; rest = d.rest })

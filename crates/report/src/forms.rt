@@ -84,10 +84,9 @@ pub fn total(t: Tally, out: &mut [u8; ROOM]) -> usize
 pub fn fault(f: First, out: &mut [u8; ROOM]) -> usize
     ensures { (result ≤ 160) × ((result ≡ length (fault f)) × (out.new ≡ over (fault f) out.old)) }
 {
-    let d = f.at;
     let a = figure(b"(line (frame ", f.frame, 0, out);
-    let b = figure(b") (sample ", d.sample as u32, a, out);
-    let c = signed(b") (rest ", d.rest, b, out);
+    let b = figure(b") (sample ", f.sample, a, out);
+    let c = signed(b") (rest ", f.rest, b, out);
     put(
         b") (no decoder of these frames, whatever its past, makes these samples))\n",
         c,

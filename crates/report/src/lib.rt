@@ -4,7 +4,7 @@
 ghost use Rattle.std.specs.Prelude.{◌≡◌};
 ghost use Rattle.report.specs.Report.{computed, none, add, begun, reached, earliest};
 
-use compare_step::{Class, Difference};
+use compare_step::Class;
 use count::Counts;
 
 pub mod forms;
@@ -26,11 +26,12 @@ pub struct Stretch {
     pub differ: u32,
 }
 
-// The first frame that differs, and where.
+// The first frame that differs, the sample, and what is left there. The sample has 32 bits, since `forms::fault` prints any.
 #[derive(Clone, Copy)]
 pub struct First {
     pub frame: u32,
-    pub at: Difference,
+    pub sample: u32,
+    pub rest: i32,
 }
 
 // Whether the samples of a frame were computed.
@@ -104,7 +105,11 @@ pub fn earliest(f: Option<First>, n: u32, c: Class) -> Option<First>
     ensures { result ≡ earliest f n c }
 {
     match (f, c) {
-        (None, Class::Differs(at)) => Some(First { frame: n, at }),
+        (None, Class::Differs(at)) => Some(First {
+            frame: n,
+            sample: at.sample as u32,
+            rest: at.rest,
+        }),
         _ => f,
     }
 }

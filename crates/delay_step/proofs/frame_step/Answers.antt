@@ -1,5 +1,7 @@
 -- `delay_step::frame_step` meets its contract, by Count's two answers.
 use native.Mathlib.Omega.{arith}
+use Rattle.std.proofs.Common.{ap}
+use Rattle.refusal.specs.Refusal.{numbered}
 use Rattle.delay_step.specs.Step.{kept}
 use Rattle.delay_step.specs.Laws.{stop_given, not_counted, is_counted}
 use Rattle.delay_step.proofs.frame_step.Goals as goal
@@ -8,7 +10,7 @@ pub returns-in-Err : goal.returns-in-Err
 returns-in-Err c =
     let s = c.args in
     record {
-      out_after = rw (not_counted (kept s.carried.now s.from) s.kind s.payload.now (rw c.frame_rules.ensures at c.count.ensures) c.in-Err.is)
+      out_after = rw (not_counted (kept s.carried.now s.from) s.kind s.payload.now (rw c.frame_rules.ensures at c.count.ensures) (ap numbered c.in-Err.is))
           (stop_given s.carried.now s.from _ s.out.now (rw c.number.ensures at c.stopped.ensures.0) c.stopped.ensures.1);
       written_bound = omega (arith, c.stopped.ensures.1);
     }
@@ -16,4 +18,4 @@ returns-in-Err c =
 pub returns-in-Ok : goal.returns-in-Ok
 returns-in-Ok c =
     let s = c.args in
-    record { out_after = rw (is_counted (kept s.carried.now s.from) s.kind s.payload.now (rw c.frame_rules.ensures at c.count.ensures) c.in-Ok.is) c.counted_step.ensures.out_after; written_bound = c.counted_step.ensures.written_bound }
+    record { out_after = rw (is_counted (kept s.carried.now s.from) s.kind s.payload.now (rw c.frame_rules.ensures at c.count.ensures) (ap numbered c.in-Ok.is)) c.counted_step.ensures.out_after; written_bound = c.counted_step.ensures.written_bound }

@@ -1,5 +1,6 @@
 -- `line_step::line_step` meets its contract, by Line's two answers.
-use Rattle.std.proofs.Common.{arith, length-take}
+use Rattle.std.proofs.Common.{ap, arith, length-take}
+use Rattle.refusal.specs.Refusal.{numbered}
 use Rattle.kind.specs.Laws.{payload_few}
 use Rattle.line_step.specs.Step.{kept}
 use Rattle.line_step.specs.Laws.{stop_given, not_line, is_line}
@@ -9,7 +10,7 @@ pub returns-in-Err : goal.returns-in-Err
 returns-in-Err c =
     let s = c.args in
     record {
-      out_after = rw (not_line s.t.now (kept s.b.now s.from) s.text.now c.in-Err.is c.line.ensures)
+      out_after = rw (not_line s.t.now (kept s.b.now s.from) s.text.now (ap numbered c.in-Err.is) c.line.ensures)
           (stop_given s.b.now s.from _ s.out.now (rw c.number.ensures at c.stopped.ensures.0) c.stopped.ensures.1);
       written_le_frame_room = omega (arith, c.stopped.ensures.1);
     }
@@ -25,4 +26,4 @@ slice_bounds-frame_step-end c =
 pub returns-in-Ok : goal.returns-in-Ok
 returns-in-Ok c =
     let s = c.args in
-    record { out_after = rw (is_line s.t.now (kept s.b.now s.from) s.text.now c.in-Ok.is c.line.ensures c.payload_length-n.ensures) c.frame_step.ensures.out_after; written_le_frame_room = c.frame_step.ensures.written_le_frame_room }
+    record { out_after = rw (is_line s.t.now (kept s.b.now s.from) s.text.now (ap numbered c.in-Ok.is) c.line.ensures c.payload_length-n.ensures) c.frame_step.ensures.out_after; written_le_frame_room = c.frame_step.ensures.written_le_frame_room }

@@ -1,22 +1,20 @@
 -- The answers of `job::names::folder`.
-use Rattle.std.proofs.Common.{◌≡◌, ◌∙◌, length, arith}
-use Rattle.job.specs.Laws.{folder_here, folder_not, folder_none, folder_all}
+use Rattle.std.proofs.Common.{◌∙◌, arith}
+use Rattle.job.specs.Laws.{folder_here, folder_not, folder_all, folder_none}
 use Rattle.job.proofs.names.folder.Goals as goal
-use Rattle.job.proofs.names.folder.Goals.{then-b-eq47, else-b-eq47}
 
 pub loop-i-init : goal.loop-i-init
-loop-i-init c = record { last = folder_none c.args.path.now; within = omega arith }
+loop-i-init c = (omega arith, folder_all c.args.path.now)
 
 pub loop-i-preserved : goal.loop-i-preserved
 loop-i-preserved c =
-    let l = c.args.path.now in
     let i = c.loop-i in
-    elim c.if-b-eq47.branch [
-      | then-b-eq47 w ↦ record { last = w.n-is ∙ folder_here l i.i c.loop-i-test.true w.if-b-eq47.true; within = omega (arith, w.n-is) }
-      | else-b-eq47 w ↦ record { last = w.n-is ∙ i.invariant.last ∙ folder_not l i.i c.loop-i-test.true w.if-b-eq47.false; within = omega (arith, w.n-is) }
-    ]
+    (omega arith, folder_not c.args.path.now i.i (omega arith) i.invariant.0 i.invariant.1 c.if-path-i-eq47.false)
+
+pub returns-then-path-i-eq47-clause-last : goal.returns-then-path-i-eq47-clause-last
+returns-then-path-i-eq47-clause-last c =
+    let i = c.loop-i in
+    omega (arith, folder_here c.args.path.now i.i (omega arith) i.invariant.0 i.invariant.1 c.if-path-i-eq47.true)
 
 pub returns-clause-last : goal.returns-clause-last
-returns-clause-last c =
-    let e : c.loop-i.i ≡ length c.args.path.now = omega arith in
-    c.loop-i.invariant.last ∙ rw e (folder_all c.args.path.now)
+returns-clause-last c = folder_none c.args.path.now c.loop-i.i (omega arith) c.loop-i.invariant.1

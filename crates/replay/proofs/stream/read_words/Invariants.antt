@@ -2,7 +2,7 @@
 use Rattle.std.proofs.Common.{◌≡◌}
 use Rattle.replay.proofs.stream.read_words.Given as goal
 
-abbrev pub invariant-loop-words : goal.invariant-loop-words
-invariant-loop-words g l =
-    (goal.iterator-loop-words g).can_next l.words-iterator ×
-    (goal.iterator-loop-words g).is_finite l.words-iterator × (l.words-iterator.size ≡ 256)
+abbrev pub invariant-loop-part : goal.invariant-loop-part
+invariant-loop-part g l =
+    (goal.iterator-loop-part g).can_next l.part-iterator ×
+    (goal.iterator-loop-part g).is_finite l.part-iterator × (l.part-iterator.size ≡ 256)

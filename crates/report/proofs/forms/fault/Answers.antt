@@ -11,5 +11,5 @@ pub returns : goal.returns
 unfolding fault
 returns c = (
   omega (arith, c.figure-a.ensures.0, c.figure-b.ensures.0, c.signed-c.ensures.0, c.put.ensures.place),
-  front (then (then (then c.figure-a.ensures.1 c.figure-b.ensures.1) (rw (via w32 _ c.struct_told-1.given.1.0.1) at c.signed-c.ensures.1)) c.put.ensures),
+  front (then (then (then c.figure-a.ensures.1 c.figure-b.ensures.1) (rw (via w32 _ c.struct_told-1.given.1.1.0.1) at c.signed-c.ensures.1)) c.put.ensures),
 )
