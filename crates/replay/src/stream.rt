@@ -9,7 +9,7 @@ use std::io::Read;
 // As many words as are read at a time.
 const CHUNK: usize = 256;
 
-// The bytes of one read; 0 at the end of the input. Inlined, and so is `read_full`: then nothing is left of the 8 KiB that a reader on standard input sets aside for lines.
+// The bytes of one read; 0 at the end of the input. Inlined, and so is `read_full`, since a reader on standard input sets 8 KiB aside for lines: of that nothing is left but in a loop of reads.
 #[inline(always)]
 fn read_some<I: Read>(input: &mut I, text: &mut [u8]) -> usize
     ensures { result ≤ length text.new }
